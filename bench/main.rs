@@ -1,6 +1,6 @@
 //! The archive's and the Rust's times, in one process: the two by turns, the best of many rounds each.
 //!
-//!   bench OBJECT [ROUNDS [FILE [ONLY]]]     FILE: every row with its times; ONLY: the rows of the interleaved form, generate or table alone
+//!   bench OBJECT [ROUNDS [FILE [ONLY]]]     FILE: every row with its times; ONLY: the rows of the interleaved form, generate, table or guest alone
 //!
 //! Both get the same inputs, borrowed. The archive writes to lent outputs, reused from call to call. The Rust allocates: its results, and
 //! inside encode and decode a part of the array for each level, the index and the data; giving that memory back is in its time. Where it
@@ -9,12 +9,13 @@
 //! which does less than the listed one.
 //! Packed masks, which the Rust does not have, are timed against masks of bytes, both ours. encode_interleaved and generate, which it does not have either,
 //! are timed against a plain Rust loop with reused buffers (bounds.rs), the former by the same C signature and into the same memory, and also against that
-//! loop behind the same checks; working tables against loops with the same checks (tables.rs).
+//! loop behind the same checks; working tables and guests' calls against loops with the same checks (tables.rs, guests.rs).
 
 #[path = "../oracle/driver/archive.rs"]
 #[allow(dead_code)]
 mod archive;
 mod bounds;
+mod guests;
 mod inputs;
 #[path = "../oracle/driver/rng.rs"]
 #[allow(dead_code)]
@@ -58,6 +59,8 @@ enum Call<'a> {
     Older(&'a Input),
     /// Kind and shape, and how many value bytes are lent.
     Load(&'a [u64; 5], &'a [u64], usize),
+    /// What a rights plane shows, and how many value bytes are lent.
+    Seen(&'a Input, &'a [u8], usize),
     Memcpy(&'a [u8]),
 }
 use Call::*;
@@ -65,6 +68,7 @@ const CALLS: [&str; 7] = ["encode", "decode", "decode_interleaved", "extract", "
 const OLDER: &str = "encode_interleaved";
 const LOAD: &str = "generate";
 const TABLE: [&str; 5] = ["table_make", "table_read", "table_set", "table_pack", "table_preview"];
+const GUEST: [&str; 2] = ["guest_read", "guest_edit"];
 const START: u32 = 7;
 impl Call<'_> {
     fn name(&self) -> &'static str {
@@ -78,6 +82,7 @@ impl Call<'_> {
             Reverse(..) => CALLS[6],
             Older(..) => OLDER,
             Load(..) => LOAD,
+            Seen(..) => GUEST[0],
             Memcpy(..) | Cells(..) => "",
         }
     }
@@ -123,6 +128,11 @@ fn ours(a: &Archive, call: Call, l: &mut Lent) {
             Reverse(size, length) => (a.reverse_endianness)(size, v, length, n),
             Cells(shape, q) => (a.subset_cells)(shape.as_ptr(), shape.len(), q.as_ptr(), q.len(), o, ol, n),
             Load(kind, shape, room) => (a.generate)(c_kind(kind), shape.as_ptr(), shape.len(), START, m, ml, v, room, o, ol, n),
+            #[rustfmt::skip]
+            Seen(i, rights, room) => (a.guest_read)(
+                c_kind(&i.kind), i.shape.as_ptr(), i.shape.len(), rights.as_ptr(), rights.len(), i.masks.as_ptr(), i.masks.len(),
+                i.values.as_ptr(), i.values.len(), i.offsets.as_ptr(), i.offsets.len(), m, ml, v, room, o, ol, n,
+            ),
             Memcpy(s) => {
                 l.values[..s.len()].copy_from_slice(black_box(s));
                 0
@@ -232,6 +242,8 @@ struct Bench {
     loads: [Vec<Row>; 2],
     /// The calls on working tables beside plain loops.
     tables: Vec<Row>,
+    /// Guests' calls beside plain loops.
+    guests: Vec<Row>,
 }
 
 fn keep<T>(result: T) {
@@ -239,6 +251,11 @@ fn keep<T>(result: T) {
 }
 
 impl Bench {
+    fn new(archive: Archive, rounds: u32) -> Bench {
+        let (rows, packed, older, checked, tables, guests) = (vec![], vec![], vec![], vec![], vec![], vec![]);
+        Bench { archive, rounds, rows, packed, older, checked, loads: [vec![], vec![]], tables, guests }
+    }
+
     fn ours<'a>(&self, call: Call<'a>) -> Timed<'a> {
         let (a, mut l) = (self.archive, Lent::new());
         match call {
@@ -252,6 +269,7 @@ impl Bench {
             Cells(shape, q) => timed(move || ours(&a, Cells(shape, q), &mut l)),
             Older(i) => timed(move || ours(&a, Older(i), &mut l)),
             Load(kind, shape, room) => timed(move || ours(&a, Load(kind, shape, room), &mut l)),
+            Seen(i, rights, room) => timed(move || ours(&a, Seen(i, rights, room), &mut l)),
             Memcpy(s) => timed(move || ours(&a, Memcpy(s), &mut l)),
         }
     }
@@ -469,6 +487,31 @@ impl Bench {
         let (name, what, column) = (format!("d{} {}", kind[0], kind_name(&kind)), what.to_string(), cells.to_string());
         let row = Row { call: LOAD, below: false, kind: name, what, column, other, ours, held: None };
         self.loads[usize::from(exact)].push(row);
+    }
+
+    /// The loop shows the same, then the clock. With room for the whole array what is shown needs no counting; with just the room for it, it does.
+    fn guest_row(&mut self, i: &Input, rights: &[u8], exact: bool, what: String) {
+        let room = |lengths: [usize; 3]| {
+            let [masks, values, offsets] = lengths;
+            tables::Read { masks: vec![0; masks], values: vec![0; values], offsets: vec![0; offsets] }
+        };
+        let mut plain = room([i.masks.len(), i.values.len(), i.offsets.len()]);
+        let [masks, values, offsets] = guests::read(i, rights, &mut plain).unwrap();
+        let bytes = if exact { values } else { i.values.len() };
+        let mut lent = Lent::new();
+        ours(&self.archive, Seen(i, rights, bytes), &mut lent);
+        let same = (&lent.masks[..masks], &lent.values[..values], &lent.offsets[..offsets], lent.lengths.map(|n| n as usize));
+        let due = (&plain.masks[..], &plain.values[..values], &plain.offsets[..], [masks, values, offsets]);
+        assert!(same == due, "not the same: {} {} {what}", GUEST[0], kind_name(&i.kind));
+        let mut reused = room([masks, bytes, offsets]);
+        let other = timed(|| {
+            guests::read(black_box(i), rights, &mut reused).unwrap();
+            black_box(&mut reused);
+        });
+        let [ours, other] = self.turns(Seen(i, rights, bytes), other, 1.0, 2.0);
+        let kind = format!("d{} {}", i.kind[0], kind_name(&i.kind));
+        let column = cells_of(&i.shape).to_string();
+        self.guests.push(Row { call: GUEST[0], below: true, kind, what, column, other, ours, held: None });
     }
 
     fn interleaved(&mut self, cells: usize, values: Values) {
@@ -717,17 +760,8 @@ fn table_cases(b: &mut Bench, depth: usize, cells: usize, state: tables::State) 
             held: None,
         });
     };
-    let (a, rounds) = (b.archive, b.rounds);
-    let timer = Bench {
-        archive: a,
-        rounds,
-        rows: vec![],
-        packed: vec![],
-        older: vec![],
-        checked: vec![],
-        loads: [vec![], vec![]],
-        tables: vec![],
-    };
+    let a = b.archive;
+    let timer = Bench::new(a, b.rounds);
     let (k, n) = (c_kind(&kind), cells as u64);
     let order = || Vec::with_capacity(cells);
 
@@ -802,52 +836,12 @@ fn table_cases(b: &mut Bench, depth: usize, cells: usize, state: tables::State) 
     // a cell in the middle, set to a value of 8 bytes: behind the others; and, in a store with just the room, after packing
     let cell = (cells / 2..cells).find(|&cell| table.lengths[cell] > 0).unwrap();
     let (masks, value) = (vec![1; depth], [7; 8]);
-    let setting = |t: &mut tables::Table| unsafe {
-        #[rustfmt::skip]
-        let answer = (a.table_set)(
-            k, n, t.masks.as_mut_ptr(), t.masks.len(), t.starts.as_mut_ptr(), cells, t.lengths.as_mut_ptr(), cells, t.store.as_mut_ptr(), t.store.len(),
-            cell as u64, masks.as_ptr(), depth, value.as_ptr(), 8,
-        );
-        assert_eq!(answer, 0);
-    };
-    let mut tight = table.clone();
-    tight.store.truncate(table.store.len() - 16);
+    let tight = without_room(&table);
     for (before, what) in [(&table, "room behind"), (&tight, "packs beforehand")] {
-        let packs = what == "packs beforehand";
-        if packs && state == tables::State::Fresh {
+        if what == "packs beforehand" && state == tables::State::Fresh {
             continue; // it has no gaps
         }
-        let back = |t: &mut tables::Table| {
-            if packs {
-                t.starts.copy_from_slice(&before.starts);
-                t.store.copy_from_slice(&before.store);
-            }
-            (t.starts[cell], t.lengths[cell]) = (before.starts[cell], before.lengths[cell]);
-            black_box(t);
-        };
-        let (mut mine, mut plain) = (before.clone(), before.clone());
-        setting(&mut mine);
-        tables::set(&kind, &mut plain, cell, &masks, &value, &mut order()).unwrap();
-        assert!(mine == plain, "not the same: table_set");
-        back(&mut plain);
-        let mut o = order();
-        let other = timed(|| {
-            tables::set(black_box(&kind), &mut plain, cell, &masks, &value, &mut o).unwrap();
-            back(&mut plain);
-        });
-        let sides = timer.turns_of(
-            || {
-                let mut t = before.clone();
-                timed(move || {
-                    setting(&mut t);
-                    back(&mut t);
-                })
-            },
-            other,
-            1.0,
-            2.0,
-        );
-        row(TABLE[2], what, sides);
+        row(TABLE[2], what, setting_sides(&timer, &kind, before, cell, None));
 
         let previewing = || unsafe {
             let (t, mut lengths) = (before, [0; 2]);
@@ -917,6 +911,107 @@ fn table_cases(b: &mut Bench, depth: usize, cells: usize, state: tables::State) 
         2.0,
     );
     row(TABLE[3], "at most 256 cells", sides);
+}
+
+/// The same table in a store that ends with its highest-lying cell.
+fn without_room(table: &tables::Table) -> tables::Table {
+    let mut tight = table.clone();
+    tight.store.truncate(table.store.len() - 16);
+    tight
+}
+/// A cell set to a value of 8 bytes, by the table's owner or by a guest with these rights, who may be refused; ours and the loop. What it changes is put back
+/// after each.
+fn setting_sides(b: &Bench, kind: &[u64; 5], before: &tables::Table, cell: usize, rights: Option<&[u8]>) -> [f64; 2] {
+    let (a, k, depth, cells) = (b.archive, c_kind(kind), kind[0] as usize, before.starts.len());
+    let (masks, value, n, c) = (vec![1; depth], [7; 8], before.starts.len() as u64, cell as u64);
+    let setting = |t: &mut tables::Table| unsafe {
+        let (ms, ss, ls, st) = (t.masks.as_mut_ptr(), t.starts.as_mut_ptr(), t.lengths.as_mut_ptr(), t.store.as_mut_ptr());
+        let (ml, sl) = (t.masks.len(), t.store.len());
+        #[rustfmt::skip]
+        let answer = match rights {
+            None => (a.table_set)(k, n, ms, ml, ss, cells, ls, cells, st, sl, c, masks.as_ptr(), depth, value.as_ptr(), 8),
+            Some(r) => (a.guest_edit)(
+                k, n, r.as_ptr(), r.len(), ms, ml, ss, cells, ls, cells, st, sl, c, masks.as_ptr(), depth, value.as_ptr(), 8,
+            ),
+        };
+        answer
+    };
+    let plainly = |t: &mut tables::Table, order: &mut Vec<u32>| {
+        tables::set(black_box(kind), rights, t, cell, &masks, &value, order).err().unwrap_or(0)
+    };
+    let mut order = Vec::with_capacity(cells);
+    let (mut mine, mut plain) = (before.clone(), before.clone());
+    let answer = setting(&mut mine);
+    assert!(answer == plainly(&mut plain, &mut order) && mine == plain, "not the same: a setting");
+    let moved = (0..cells).any(|other| other != cell && mine.starts[other] != before.starts[other]);
+    let back = |t: &mut tables::Table| {
+        if moved {
+            t.starts.copy_from_slice(&before.starts);
+            t.store.copy_from_slice(&before.store);
+        }
+        (t.starts[cell], t.lengths[cell]) = (before.starts[cell], before.lengths[cell]);
+        black_box(t);
+    };
+    back(&mut plain);
+    let other = timed(|| {
+        assert_eq!(plainly(&mut plain, &mut order), answer);
+        back(&mut plain);
+    });
+    b.turns_of(
+        || {
+            let mut t = before.clone();
+            timed(move || {
+                assert_eq!(setting(&mut t), answer);
+                back(&mut t);
+            })
+        },
+        other,
+        1.0,
+        2.0,
+    )
+}
+
+/// What a guest reads of arrays with masks half set and all set, where its plane shows none, half and all; and settings of a shown and of a hidden cell.
+fn guest_rows(b: &mut Bench) {
+    let sizes = [1, 2, 3, 4, 8, 12, 16, 64].map(|size| (fixed(1, size, 0), Values::Short));
+    let lists = VALUES.map(|values| (ragged(1, 8, 0), values));
+    for (kind, values) in sizes.into_iter().chain(lists) {
+        for depth in [1, 2, 4] {
+            for cells in &CELLS[1..] {
+                for mask in [Mask::Full, Mask::Half] {
+                    let i = input([depth, kind[1], kind[2], kind[3], 0], square(*cells), mask, values);
+                    for shown in [Mask::Empty, Mask::Half, Mask::Full] {
+                        let rights = shown.plane(&mut Rng(12), *cells);
+                        let mut what = format!("{} shown, {}", ["none", "all", "half"][shown as usize], mask.name());
+                        if kind[1] == 1 {
+                            what += &format!(", {}", values.name());
+                            b.guest_row(&i, &rights, true, format!("{what}, just the room"));
+                        }
+                        b.guest_row(&i, &rights, false, what);
+                    }
+                }
+            }
+        }
+    }
+    for depth in [1, 2, 4] {
+        for cells in &CELLS[1..] {
+            for state in tables::State::ALL {
+                let (kind, table) = (ragged(depth, 8, 0), tables::table(depth as usize, *cells, state));
+                let cell = (cells / 2..*cells).find(|&cell| table.lengths[cell] > 0).unwrap();
+                let mut rights = Mask::Half.plane(&mut Rng(12), *cells);
+                let tight = without_room(&table);
+                for (before, what) in [(&table, "room behind"), (&tight, "packs beforehand"), (&table, "a hidden cell")] {
+                    if what == "packs beforehand" && state == tables::State::Fresh {
+                        continue; // it has no gaps
+                    }
+                    rights[cell] = u8::from(what != "a hidden cell");
+                    let [ours, other] = setting_sides(&Bench::new(b.archive, b.rounds), &kind, before, cell, Some(&rights));
+                    let (kind, what, column) = (format!("d{depth} {}", state.name()), what.to_string(), cells.to_string());
+                    b.guests.push(Row { call: GUEST[1], below: true, kind, what, column, other, ours, held: None });
+                }
+            }
+        }
+    }
 }
 
 /// In the middle of two sides.
@@ -1263,9 +1358,9 @@ fn table_tables(b: &mut Bench) {
         table(&b.tables.iter().filter(|row| row.call == call).collect::<Vec<_>>());
     }
 }
-fn tables_said(b: &Bench) {
-    for call in TABLE {
-        let list: Vec<f64> = b.tables.iter().filter(|row| row.call == call).map(Row::ratio).collect();
+fn tables_said(rows: &[Row], calls: &[&str]) {
+    for &call in calls {
+        let list: Vec<f64> = rows.iter().filter(|row| row.call == call).map(Row::ratio).collect();
         println!(
             "{call} no slower than a plain loop: {} ({} rows, geometric mean {:.2}, {} under 1.0, least {:.2})",
             said(least(&list) >= 1.0),
@@ -1277,20 +1372,21 @@ fn tables_said(b: &Bench) {
     }
 }
 
+fn guest_tables(b: &mut Bench) {
+    guest_rows(b);
+    for call in GUEST {
+        println!(
+            "\n`{call}`, by cells. Ratio: the time of a plain Rust loop with reused buffers and the same checks over ours.\n"
+        );
+        table(&b.guests.iter().filter(|row| row.call == call).collect::<Vec<_>>());
+    }
+}
+
 fn main() {
     let args: Vec<String> = std::env::args().skip(1).collect();
     let archive = Archive::load(&args[0]).unwrap();
     let rounds = args.get(1).map_or(25, |n| n.parse().unwrap());
-    let mut b = Bench {
-        archive,
-        rounds,
-        rows: vec![],
-        packed: vec![],
-        older: vec![],
-        checked: vec![],
-        loads: [vec![], vec![]],
-        tables: vec![],
-    };
+    let mut b = Bench::new(archive, rounds);
     let only = args.get(3).map_or("", |only| &only[..]);
     if only == "generate" {
         load_tables(&mut b);
@@ -1298,7 +1394,14 @@ fn main() {
     }
     if only == "table" {
         table_tables(&mut b);
-        return tables_said(&b);
+        return tables_said(&b.tables, &TABLE);
+    }
+    if only == "guest" {
+        guest_tables(&mut b);
+        println!("\nRows under 1.0:\n\n| call | kind | with | at | loop, ns | ours, ns | ratio |\n|---|---|---|---|---|---|---|");
+        b.guests.iter().filter(|row| row.ratio() < 1.0).for_each(|row| println!("{}", whole(row)));
+        println!();
+        return tables_said(&b.guests, &GUEST);
     }
     if only == "interleaved" {
         interleaved_rows(&mut b);
@@ -1318,6 +1421,7 @@ fn main() {
     older_tables(&mut b);
     load_tables(&mut b);
     table_tables(&mut b);
+    guest_tables(&mut b);
     let copies = copies(&mut b);
     growth(&mut b);
 
@@ -1344,7 +1448,8 @@ fn main() {
     );
     older_said(&b);
     loads_said(&b);
-    tables_said(&b);
+    tables_said(&b.tables, &TABLE);
+    tables_said(&b.guests, &GUEST);
     println!("large plain copies at 0.7 of memcpy or more: {} (least {:.2})", said(least(&copies) >= 0.7), least(&copies));
     if let Some(file) = args.get(2) {
         let lines: Vec<String> = b
@@ -1356,6 +1461,7 @@ fn main() {
             .chain(b.checked.iter().map(|row| whole(row) + " behind the same checks |"))
             .chain(b.loads.iter().flatten().map(whole))
             .chain(b.tables.iter().map(whole))
+            .chain(b.guests.iter().map(whole))
             .collect();
         std::fs::write(file, lines.join("\n") + "\n").unwrap();
     }

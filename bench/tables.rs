@@ -1,5 +1,5 @@
-//! Working tables: the plain loops that one would write for the five calls, with the same checks in the same order and the same outcome. Buffers are used
-//! again, the list for the order in which cells lie too.
+//! Working tables: the plain loops that one would write for the five calls and for a guest's edit, with the same checks in the same order and the same outcome.
+//! Buffers are used again, the list for the order in which cells lie too.
 
 use crate::rng::Rng;
 
@@ -20,7 +20,7 @@ pub struct Read {
 }
 
 const STORE: usize = 16_777_216;
-const CELLS: usize = 65_536;
+pub const CELLS: usize = 65_536;
 
 fn kind_and_count(kind: &[u64; 5], cells: usize) -> Result<usize, u32> {
     let wrong = kind[0] > 4 || kind[1] != 1 || (kind[2] != 4 && kind[2] != 8) || kind[3] > 1 || kind[4] > 1;
@@ -80,16 +80,44 @@ fn check_store(t: &Table) -> Result<(), u32> {
     if t.store.len() > STORE { Err(5) } else { Ok(()) }
 }
 
+/// The rules of an array.
+#[inline(always)]
+pub fn check_array(kind: &[u64; 5], cells: usize, masks: &[u8], values: &[u8], offsets: &[u64]) -> Result<(), u32> {
+    if masks.len() != kind[0] as usize * cells || masks.iter().any(|&byte| byte > 1) {
+        return Err(4);
+    }
+    if kind[1] == 0 {
+        if values.len() != cells * kind[2] as usize || !offsets.is_empty() {
+            return Err(4);
+        }
+    } else {
+        if offsets.len() != cells + 1 || offsets[0] != 0 || offsets.windows(2).any(|two| two[0] > two[1]) {
+            return Err(4);
+        }
+        if offsets[cells] != values.len() as u64 {
+            return Err(4);
+        }
+    }
+    if values.len() > STORE { Err(5) } else { Ok(()) }
+}
+
+/// A rights plane, of a kind with masks.
+#[inline(always)]
+pub fn check_rights(depth: usize, cells: usize, rights: &[u8]) -> Result<(), u32> {
+    if depth == 0 {
+        return Err(17);
+    }
+    if rights.len() != cells || rights.iter().any(|&byte| byte > 1) {
+        return Err(4);
+    }
+    Ok(())
+}
+
 #[inline(never)]
 pub fn make(kind: &[u64; 5], cells: usize, masks: &[u8], values: &[u8], offsets: &[u64], out: &mut Table) -> Result<(), u32> {
     let depth = kind_and_count(kind, cells)?;
-    if masks.len() != depth * cells || masks.iter().any(|&byte| byte > 1) || offsets.len() != cells + 1 || offsets[0] != 0 {
-        return Err(4);
-    }
-    if offsets.windows(2).any(|two| two[0] > two[1]) || offsets[cells] != values.len() as u64 {
-        return Err(4);
-    }
-    if values.len() > STORE || out.store.len() > STORE {
+    check_array(kind, cells, masks, values, offsets)?;
+    if out.store.len() > STORE {
         return Err(5);
     }
     let shown = |cell: usize| (0..depth).all(|level| masks[level * cells + cell] == 1);
@@ -164,9 +192,10 @@ pub fn pack(kind: &[u64; 5], cells: usize, t: &mut Table, most: usize, order: &m
     Ok(move_cells(t, order, most))
 }
 
-/// How many levels of a setting are set, its value in rest form, and the bytes of all other cells.
+/// How many levels of a setting are set, its value in rest form, and the bytes of all other cells. A guest's rights must show the cell.
 fn check_setting<'a>(
     kind: &[u64; 5],
+    rights: Option<&[u8]>,
     t: &Table,
     cell: usize,
     masks: &[u8],
@@ -175,6 +204,9 @@ fn check_setting<'a>(
 ) -> Result<(usize, &'a [u8], u64), u32> {
     let cells = t.starts.len();
     let depth = kind_and_count(kind, cells)?;
+    if let Some(rights) = rights {
+        check_rights(depth, cells, rights)?;
+    }
     check(depth, cells, t, order)?;
     if masks.len() != depth || masks.iter().any(|&byte| byte > 1) {
         return Err(4);
@@ -182,6 +214,9 @@ fn check_setting<'a>(
     check_store(t)?;
     if cell >= cells {
         return Err(15);
+    }
+    if rights.is_some_and(|rights| rights[cell] == 0) {
+        return Err(18);
     }
     let set = masks.iter().take_while(|&&byte| byte == 1).count();
     let value = if set == depth { value } else { &[] };
@@ -192,9 +227,18 @@ fn check_setting<'a>(
     Ok((set, value, others))
 }
 
+/// By the table's owner, or by a guest with these rights.
 #[inline(never)]
-pub fn set(kind: &[u64; 5], t: &mut Table, cell: usize, masks: &[u8], value: &[u8], order: &mut Vec<u32>) -> Result<(), u32> {
-    let (set, value, others) = check_setting(kind, t, cell, masks, value, order)?;
+pub fn set(
+    kind: &[u64; 5],
+    rights: Option<&[u8]>,
+    t: &mut Table,
+    cell: usize,
+    masks: &[u8],
+    value: &[u8],
+    order: &mut Vec<u32>,
+) -> Result<(), u32> {
+    let (set, value, others) = check_setting(kind, rights, t, cell, masks, value, order)?;
     let (depth, cells) = (masks.len(), t.starts.len());
     (0..depth).for_each(|level| t.masks[level * cells + cell] = u8::from(level < set));
     if t.lengths[cell] > 0 {
@@ -224,7 +268,7 @@ pub fn preview(
     value: &[u8],
     order: &mut Vec<u32>,
 ) -> Result<[u64; 2], u32> {
-    let (_, value, others) = check_setting(kind, t, cell, masks, value, order)?;
+    let (_, value, others) = check_setting(kind, None, t, cell, masks, value, order)?;
     let (mut packed, mut end, mut displaced) = (0, 0, 0);
     for &other in order.iter().filter(|&&other| other as usize != cell) {
         let (start, length) = (t.starts[other as usize], t.lengths[other as usize]);

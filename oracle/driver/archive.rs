@@ -41,6 +41,11 @@ pub type PackCall = unsafe extern "C" fn(DpxKind, u64, In8, usize, Out64, usize,
 #[rustfmt::skip]
 pub type PreviewCall = unsafe extern "C" fn(DpxKind, u64, In8, usize, In64, usize, In64, usize, In8, usize, u64, In8, usize, In8, usize, Out64) -> u32;
 
+#[rustfmt::skip]
+pub type GuestReadCall = unsafe extern "C" fn(DpxKind, In64, usize, In8, usize, In8, usize, In8, usize, In64, usize, Out8, usize, Out8, usize, Out64, usize, Out64) -> u32;
+#[rustfmt::skip]
+pub type GuestEditCall = unsafe extern "C" fn(DpxKind, u64, In8, usize, Out8, usize, Out64, usize, Out64, usize, Out8, usize, u64, In8, usize, In8, usize) -> u32;
+
 /// The functions.
 #[derive(Clone, Copy)]
 pub struct Archive {
@@ -59,6 +64,8 @@ pub struct Archive {
     pub table_set: SetCall,
     pub table_pack: PackCall,
     pub table_preview: PreviewCall,
+    pub guest_read: GuestReadCall,
+    pub guest_edit: GuestEditCall,
 }
 impl Archive {
     pub fn load(path: &str) -> Result<Archive, String> {
@@ -90,6 +97,8 @@ impl Archive {
                 table_set: transmute::<*mut c_void, SetCall>(find(c"dpx_table_set")?),
                 table_pack: transmute::<*mut c_void, PackCall>(find(c"dpx_table_pack")?),
                 table_preview: transmute::<*mut c_void, PreviewCall>(find(c"dpx_table_preview")?),
+                guest_read: transmute::<*mut c_void, GuestReadCall>(find(c"dpx_guest_read")?),
+                guest_edit: transmute::<*mut c_void, GuestEditCall>(find(c"dpx_guest_edit")?),
             })
         }
     }

@@ -1,6 +1,7 @@
 //! The requests: exhaustive small ones, ones around each limit, large ones, and random ones with damaged copies. All of it is
 //! determined by the seed.
 
+use crate::guests;
 use crate::request::{Request, Request::*};
 use crate::rng::Rng;
 use crate::tables;
@@ -21,7 +22,7 @@ pub fn fixed(depth: usize, size: u64, order: u64) -> [u64; 5] {
 pub fn ragged(depth: usize, width: u64, place: u64) -> [u64; 5] {
     [depth as u64, 1, width, place, 0]
 }
-const RAGGED: [(u64, u64); 4] = [(4, 0), (4, 1), (8, 0), (8, 1)];
+pub const RAGGED: [(u64, u64); 4] = [(4, 0), (4, 1), (8, 0), (8, 1)];
 const SIZES: [u64; 17] = [1, 1, 2, 2, 3, 4, 5, 7, 8, 9, 15, 16, 17, 32, 33, 63, 64];
 
 /// The same kind with packed masks.
@@ -32,7 +33,7 @@ pub fn packed(kind: [u64; 5]) -> [u64; 5] {
 fn at_depth(kind: [u64; 5], depth: usize) -> [u64; 5] {
     [depth as u64, kind[1], kind[2], kind[3], kind[4]]
 }
-fn any_kind(rng: &mut Rng, depth: usize, masks: u64) -> [u64; 5] {
+pub fn any_kind(rng: &mut Rng, depth: usize, masks: u64) -> [u64; 5] {
     let mut kind = if rng.below(2) == 0 {
         let (width, place) = rng.pick(&RAGGED);
         ragged(depth, width, place)
@@ -44,7 +45,7 @@ fn any_kind(rng: &mut Rng, depth: usize, masks: u64) -> [u64; 5] {
     kind
 }
 /// A shape of exactly `cells` cells.
-fn shape_of(rng: &mut Rng, cells: usize) -> Vec<u64> {
+pub fn shape_of(rng: &mut Rng, cells: usize) -> Vec<u64> {
     let mut shape = vec![];
     let mut left = cells;
     for _ in 0..rng.below(4) {
@@ -56,7 +57,7 @@ fn shape_of(rng: &mut Rng, cells: usize) -> Vec<u64> {
     shape.push(left as u64);
     shape
 }
-fn any_shape(rng: &mut Rng) -> Vec<u64> {
+pub fn any_shape(rng: &mut Rng) -> Vec<u64> {
     let cells = match rng.below(16) {
         0 => 1,
         1..=11 => 1 + rng.below(8),
@@ -65,7 +66,7 @@ fn any_shape(rng: &mut Rng) -> Vec<u64> {
     };
     shape_of(rng, cells)
 }
-fn cells_of(shape: &[u64]) -> usize {
+pub fn cells_of(shape: &[u64]) -> usize {
     shape.iter().product::<u64>() as usize
 }
 /// A subset inside the shape, now and then an empty one.
@@ -287,7 +288,7 @@ fn interleaved_of(rng: &mut Rng, lengths: &[usize]) -> Vec<u8> {
 // ---------------------------------------------------------------- damage
 
 const MAX: u64 = u64::MAX;
-const NUMBERS: [u64; 22] = [
+pub const NUMBERS: [u64; 22] = [
     0,
     1,
     2,
@@ -515,7 +516,7 @@ pub fn damaged_bytes(rng: &mut Rng, list: &[u8]) -> Vec<u8> {
     copy
 }
 /// A damaged content. Offsets that would make the Rust ask for memory stay outside the domain, since the array's rules are broken.
-fn damaged_content(rng: &mut Rng, c: &Content) -> Content {
+pub fn damaged_content(rng: &mut Rng, c: &Content) -> Content {
     let mut copy = c.clone();
     match rng.below(6) {
         0 => copy.masks = damaged_bytes(rng, &c.masks),
@@ -571,6 +572,14 @@ fn faulty(rng: &mut Rng, request: &Request) -> Request {
         }
         Generate { kind, shape, .. } => faulty_head(rng, kind, shape),
         TableMake { .. } | TableRead { .. } | TableSet { .. } | TablePack { .. } | TablePreview { .. } => {} // tables.rs
+        GuestRead { kind, shape, rights, masks, values, offsets } => {
+            faulty_head(rng, kind, shape);
+            if rng.once_in(4) {
+                *rights = guests::wrong_plane(rng, rights);
+            }
+            faulty_content(rng, masks, values, offsets);
+        }
+        GuestEdit { .. } => {} // guests.rs
     }
     r
 }
@@ -656,7 +665,7 @@ fn generate(kind: [u64; 5], shape: &[u64], start: u32) -> Request {
 // ---------------------------------------------------------------- exhaustive
 
 /// All lists of `count` numbers below `n`.
-fn lists(n: u64, count: usize) -> Vec<Vec<u64>> {
+pub fn lists(n: u64, count: usize) -> Vec<Vec<u64>> {
     let mut all = vec![vec![]];
     for _ in 0..count {
         all = all.iter().flat_map(|list| (0..n).map(move |x| [&list[..], &[x]].concat())).collect();
@@ -1321,7 +1330,7 @@ fn blocks(sink: &mut dyn Sink, rng: &mut Rng) {
 
 // ---------------------------------------------------------------- large
 
-const LIMIT: usize = 16_777_216;
+pub const LIMIT: usize = 16_777_216;
 
 /// 65,536 cells in each call.
 fn many_cells(sink: &mut dyn Sink, rng: &mut Rng) {
@@ -1469,7 +1478,7 @@ fn many_bytes(sink: &mut dyn Sink, rng: &mut Rng) {
 // ---------------------------------------------------------------- random, with damaged copies
 
 /// A request, and copies with several faults.
-fn ask_with_faults(sink: &mut dyn Sink, rng: &mut Rng, request: Request) {
+pub fn ask_with_faults(sink: &mut dyn Sink, rng: &mut Rng, request: Request) {
     for _ in 0..3 {
         sink.ask(faulty(rng, &request));
     }
@@ -1685,13 +1694,19 @@ fn random_packed(sink: &mut dyn Sink, rng: &mut Rng) {
 pub fn all(sink: &mut dyn Sink, seed: u64, requests: u64) {
     let rng = &mut Rng(seed);
     let tables = &mut Rng(seed ^ 0x7461_626C_6573); // their own, so that the others draw as they did
+    let guests = &mut Rng(seed ^ 0x6775_6573_7473);
     for _ in 0..200 {
         random(sink, rng);
         random_packed(sink, rng);
         random_older(sink, rng);
         random_load(sink, rng);
         tables::random(sink, tables);
+        guests::random(sink, guests);
     }
+    guests::limits(sink, guests);
+    guests::exhaustive(sink, guests);
+    guests::blocks(sink, guests);
+    guests::large(sink, guests);
     tables::limits(sink, tables);
     tables::exhaustive(sink, tables);
     tables::many_cells(sink, tables);
@@ -1719,6 +1734,7 @@ pub fn all(sink: &mut dyn Sink, seed: u64, requests: u64) {
             random_older(sink, rng);
             random_load(sink, rng);
             tables::random(sink, tables);
+            guests::random(sink, guests);
         }
     }
 }

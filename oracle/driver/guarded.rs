@@ -92,6 +92,10 @@ impl<T: Pattern> Lent<T> {
     fn inside(&self) -> &[T] {
         &self.all[GUARD..GUARD + self.count]
     }
+    /// All that was lent, and the guards.
+    fn whole(&self) -> Vec<T> {
+        self.all.clone()
+    }
     /// The result at the front, the pattern everywhere else.
     fn is(&self, result: &[T]) -> bool {
         result.len() <= self.count
@@ -338,8 +342,59 @@ impl Guarded {
                     value.len(),
                     n,
                 ),
+                GuestRead { kind, shape, rights, masks, values, offsets } => (a.guest_read)(
+                    c_kind(kind),
+                    n1.put(shape),
+                    shape.len(),
+                    b3.put(rights),
+                    rights.len(),
+                    b1.put(masks),
+                    masks.len(),
+                    b2.put(values),
+                    values.len(),
+                    n3.put(offsets),
+                    offsets.len(),
+                    m,
+                    lent[0],
+                    v,
+                    lent[1],
+                    o,
+                    lent[2],
+                    n,
+                ),
+                GuestEdit { kind, cells, rights, cell, cell_masks, value, .. } => (a.guest_edit)(
+                    c_kind(kind),
+                    *cells,
+                    b3.put(rights),
+                    rights.len(),
+                    m,
+                    lent[0],
+                    o,
+                    lent[2],
+                    l,
+                    lent[3],
+                    v,
+                    lent[1],
+                    *cell,
+                    b1.put(cell_masks),
+                    cell_masks.len(),
+                    b2.put(value),
+                    value.len(),
+                ),
             }
         }
+    }
+
+    /// Whether two calls with outputs of these lengths and of the same bytes answer alike and leave the same behind, guards included.
+    pub fn alike(&mut self, one: &Request, other: &Request, lent: [usize; 4]) -> bool {
+        let key = self.key;
+        let left = [one, other].map(|request| {
+            self.key = key;
+            let answer = self.call(request, lent);
+            let bytes = [self.masks.whole(), self.values.whole()];
+            (answer, bytes, [self.offsets.whole(), self.cell_lengths.whole(), self.lengths.whole()])
+        });
+        left[0] == left[1]
     }
 
     /// A stored string read and written again: 0 where it came back the same, the number of its refusal, or what is wrong.
@@ -400,6 +455,10 @@ impl Guarded {
                 table && b3.holds(cell_masks) && b4.holds(value)
             }
             TableSet { cell_masks, value, .. } => b1.holds(cell_masks) && b2.holds(value),
+            GuestRead { shape, rights, masks, values, offsets, .. } => {
+                n1.holds(shape) && b3.holds(rights) && b1.holds(masks) && b2.holds(values) && n3.holds(offsets)
+            }
+            GuestEdit { rights, cell_masks, value, .. } => b3.holds(rights) && b1.holds(cell_masks) && b2.holds(value),
             TablePack { table: t, .. } => b1.holds(&t.masks) && n2.holds(&t.lengths),
         };
         if kept { None } else { Some("an input was changed") }

@@ -12,7 +12,10 @@ pub fn hidden(request: &Request) -> Hidden {
     match request {
         Decode { kind, shape, bytes } => in_stored(judge::kind(*kind), shape, bytes),
         PartialDecode { width, place, shape, bytes, .. } => in_stored(judge::kind([0, 1, *width, *place, 0]), shape, bytes),
-        Encode { kind, offsets, .. } | Extract { kind, offsets, .. } | EncodeInterleaved { kind, offsets, .. } => {
+        Encode { kind, offsets, .. }
+        | Extract { kind, offsets, .. }
+        | EncodeInterleaved { kind, offsets, .. }
+        | GuestRead { kind, offsets, .. } => {
             [false, false, false, kind[1] == 1 && offsets.first().is_some_and(|&first| first > 0)]
         }
         Merge { kind, shape, subsets, offsets, .. } => {

@@ -107,6 +107,23 @@ pub fn request_line(request: &Request) -> String {
                 put_number(l, *most);
             }
         }
+        GuestRead { kind, shape, rights, masks, values, offsets } => {
+            kind.iter().for_each(|&n| put_number(l, n));
+            put_numbers(l, shape);
+            put_bytes(l, rights);
+            put_bytes(l, masks);
+            put_bytes(l, values);
+            put_numbers(l, offsets);
+        }
+        GuestEdit { kind, cells, rights, table, cell, cell_masks, value } => {
+            kind.iter().for_each(|&n| put_number(l, n));
+            put_number(l, *cells);
+            put_bytes(l, rights);
+            put_table(l, table);
+            put_number(l, *cell);
+            put_bytes(l, cell_masks);
+            put_bytes(l, value);
+        }
     }
     line
 }
@@ -146,7 +163,7 @@ pub fn line(request: &Request, outcome: &Outcome) -> String {
 
 /// Masks, starts, lengths and store, in this order, as far as the call lends them.
 fn table_comes_out(request: &Request) -> bool {
-    matches!(request, TableMake { .. } | TableSet { .. } | TablePack { .. })
+    matches!(request, TableMake { .. } | TableSet { .. } | TablePack { .. } | GuestEdit { .. })
 }
 
 struct Words<'a>(std::str::Split<'a, char>);
@@ -238,6 +255,23 @@ pub fn parse(text: &str) -> Result<(Request, Option<Outcome>), String> {
         15 => TablePreview {
             kind: w.kind()?,
             cells: w.number()?,
+            table: w.table()?,
+            cell: w.number()?,
+            cell_masks: w.bytes()?,
+            value: w.bytes()?,
+        },
+        16 => GuestRead {
+            kind: w.kind()?,
+            shape: w.numbers()?,
+            rights: w.bytes()?,
+            masks: w.bytes()?,
+            values: w.bytes()?,
+            offsets: w.numbers()?,
+        },
+        17 => GuestEdit {
+            kind: w.kind()?,
+            cells: w.number()?,
+            rights: w.bytes()?,
             table: w.table()?,
             cell: w.number()?,
             cell_masks: w.bytes()?,

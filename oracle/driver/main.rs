@@ -11,6 +11,7 @@
 mod archive;
 mod cases;
 mod guarded;
+mod guests;
 mod hidden;
 mod lines;
 mod record;
@@ -118,8 +119,17 @@ impl Tables {
         }
     }
 }
+/// What guests read and edited.
+#[derive(Default)]
+struct Guests {
+    /// Reads held against that of another array that shows the same.
+    twins: u64,
+    /// Edits of shown cells held against the setting, and those that moved hidden cells; of hidden cells.
+    shown: [u64; 2],
+    hidden: u64,
+}
 const MASKS: [&str; 3] = ["no masks", "masks of bytes", "packed masks"];
-const ANSWERS: usize = 17;
+const ANSWERS: usize = 19;
 #[derive(Default)]
 struct Counts {
     requests: [[u64; ANSWERS]; CALLS.len()],
@@ -133,21 +143,25 @@ struct Counts {
     /// Kinds, shapes and start numbers of loads that were asked for.
     loads: HashSet<String>,
     tables: Tables,
+    guests: Guests,
     /// By mask form, as in MASKS.
     again: [Again; 3],
-    /// Requests that each build of the Rust answered: by its own function, as ragged cells.
-    compared: [u64; 2],
+    /// Requests that each build of the Rust answered: by its own function, as ragged cells, as the rest form.
+    compared: [u64; 3],
     /// By build and refusal: errors and panics of the Rust.
     refused: [[[u64; 2]; ANSWERS]; 4],
     /// As in BETWEEN.
     differences: [u64; BETWEEN.len()],
 }
-const BETWEEN: [&str; 5] = [
+const BETWEEN: [&str; 8] = [
     "archive and judge",
     "archive and Rust",
     "judge and Rust",
     "a string and the one written again",
     "a preview and the setting on a copy",
+    "reads of two arrays that show a guest the same",
+    "a guest's edit and the setting on a copy",
+    "a hidden cell before and after a guest's edit",
 ];
 
 fn say(outcome: &Outcome) -> String {
@@ -230,6 +244,11 @@ impl Compare {
                 if let Request::Generate { shape, .. } = request {
                     self.room_for_any_load(request, shape.iter().product::<u64>() as usize, more, judged);
                 }
+                if let Request::GuestRead { values, .. } = request {
+                    for room in [values.len(), values.len().saturating_sub(1)] {
+                        self.call(request, [more[0], room, more[2], 0], judged); // by what is shown, not by what there is
+                    }
+                }
             }
             Err(_) => {
                 self.call(request, some, judged);
@@ -258,7 +277,7 @@ impl Compare {
         if body == Body::None {
             return;
         }
-        self.counts.compared[usize::from(body == Body::AsRagged)] += 1;
+        self.counts.compared[body as usize] += 1;
         for (at, build) in BUILDS.iter().enumerate() {
             let rust = build.answer(request);
             if let (Err(e), Err(refusal)) = (&rust, judged) {
@@ -325,6 +344,78 @@ impl Compare {
         }
     }
 
+    /// A read beside that of another array that shows this guest the same: one answer, and the same in every lent byte, whatever room there is.
+    fn with_a_twin(&mut self, request: &Request, judged: &Outcome) {
+        let (Request::GuestRead { values, .. }, Ok(_)) = (request, judged) else { return };
+        let twin = guests::twin(&mut self.rng, request);
+        let Request::GuestRead { values: others, .. } = &twin else { unreachable!() };
+        if twin == *request {
+            return; // it shows all
+        }
+        assert!(twin.judged() == *judged, "not the same: {}", shown(&twin));
+        self.counts.guests.twins += 1;
+        let needs = needs(request, judged);
+        let mut rooms = vec![needs, [0; 4]];
+        for bytes in [values.len(), others.len()].into_iter().flat_map(|bytes| [bytes, bytes.saturating_sub(1)]) {
+            rooms.push([needs[0], bytes, needs[2], 0]);
+        }
+        for i in (0..3).filter(|&i| needs[i] > 0) {
+            let mut short = needs;
+            short[i] -= 1;
+            rooms.push(short);
+        }
+        for room in rooms {
+            if !self.guarded.alike(request, &twin, room) {
+                self.differ(5, request, &format!("with outputs of {room:?}, and {}", shown(&twin)));
+            }
+        }
+    }
+
+    /// A guest's edit beside the archive's own setting on a copy: of a shown cell they are one, of a hidden one it is refused by what comes before 18, or by 18.
+    /// No hidden cell has other masks or another value afterwards.
+    fn edited_on_a_copy(&mut self, request: &Request, edited: &Outcome) {
+        let Request::GuestEdit { kind, cells, rights, table, cell, cell_masks, value } = request else { return };
+        if kind[0] == 0 || rights.len() as u64 != *cells || rights.iter().any(|&byte| byte > 1) {
+            return;
+        }
+        let hidden: Vec<usize> = (0..rights.len()).filter(|&j| rights[j] == 0).collect();
+        let (kind, cells, cell) = (*kind, *cells, *cell);
+        let (cell_masks, value) = (cell_masks.clone(), value.clone());
+        let setting = Request::TableSet { kind, cells, table: table.clone(), cell, cell_masks, value };
+        let set = match self.guarded.call(&setting, needs(&setting, &Err(0))) {
+            0 => Ok(self.guarded.results(&setting).unwrap()),
+            refusal => Err(refusal),
+        };
+        let guests = &mut self.counts.guests;
+        let due = if hidden.iter().any(|&j| j as u64 == cell) {
+            guests.hidden += 1;
+            match set {
+                Ok(_) | Err(16) => Err(18),
+                refused => refused,
+            }
+        } else {
+            guests.shown[0] += 1;
+            set
+        };
+        if *edited != due {
+            self.differ(6, request, &format!("{}, but the setting {}", say(edited), say(&due)));
+        }
+        let Ok(after) = edited else { return };
+        let cells = rights.len();
+        let kept = |j: usize| {
+            let masks = (j..table.masks.len()).step_by(cells).all(|at| after.masks.get(at) == Some(&table.masks[at]));
+            let value = |starts: &[u64], lengths: &[u64], store: &[u8]| {
+                let (start, length) = (*starts.get(j)? as usize, *lengths.get(j)? as usize);
+                Some(store.get(start..)?.get(..length)?.to_vec())
+            };
+            masks && value(&table.starts, &table.lengths, &table.store) == value(&after.offsets, &after.lengths, &after.values)
+        };
+        if let Some(j) = hidden.iter().find(|&&j| !kept(j)) {
+            self.differ(7, request, &format!("cell {j}"));
+        }
+        self.counts.guests.shown[1] += u64::from(hidden.iter().any(|&j| table.starts.get(j) != after.offsets.get(j)));
+    }
+
     fn hold(&mut self, request: &Request, judged: &Outcome) {
         NOW.fetch_add(1, Ordering::Relaxed);
         self.counts.packed += u64::from(request.packed());
@@ -343,6 +434,8 @@ impl Compare {
         }
         self.again(request, judged);
         self.set_on_a_copy(request, &observed);
+        self.with_a_twin(request, judged);
+        self.edited_on_a_copy(request, &observed);
         if self.stop_at_first && self.counts.differences != [0; BETWEEN.len()] {
             let seen: Vec<&str> = (0..BETWEEN.len()).filter(|&i| self.counts.differences[i] > 0).map(|i| BETWEEN[i]).collect();
             println!("first difference at request {}: {}", self.asked(), seen.join(", "));
@@ -392,6 +485,12 @@ impl Compare {
             "previews, each held against the setting on a copy: {}; of settings that pack other cells {}, that leave cells displaced {}",
             previews[0], previews[1], previews[2]
         );
+        let Guests { twins, shown, hidden } = self.counts.guests;
+        println!(
+            "guests: {twins} reads held against that of another array that shows the same; {} edits of shown cells held against the setting, {} of \
+             which moved hidden cells; {hidden} edits of hidden cells",
+            shown[0], shown[1]
+        );
         println!(
             "a mask byte over 01: stored, refused with 14, in {} requests; handed over in {}",
             self.counts.requests[1][14], self.counts.over_01
@@ -402,10 +501,12 @@ impl Compare {
              stored in {stored} and handed over in {given}"
         );
         println!(
-            "in the domain and compared with each of {} builds of the Rust: {} by its own functions, {} as ragged cells of one size",
+            "in the domain and compared with each of {} builds of the Rust: {} by its own functions, {} as ragged cells of one size, {} as what it \
+             writes and reads again",
             BUILDS.len(),
             self.counts.compared[0],
-            self.counts.compared[1]
+            self.counts.compared[1],
+            self.counts.compared[2]
         );
         println!("\nstrings that decode accepts, read and written again, the same bytes; distinct by kind, cells and bytes:");
         println!("{:<20}{:>10}{:>12}{:>18}{:>12}", "", "strings", "distinct", "damaged copies", "distinct");

@@ -20,11 +20,13 @@ pub enum Request {
     TableSet { kind: KindNumbers, cells: u64, table: Table, cell: u64, cell_masks: Vec<u8>, value: Vec<u8> },
     TablePack { kind: KindNumbers, cells: u64, table: Table, most: u64 },
     TablePreview { kind: KindNumbers, cells: u64, table: Table, cell: u64, cell_masks: Vec<u8>, value: Vec<u8> },
+    GuestRead { kind: KindNumbers, shape: Vec<u64>, rights: Vec<u8>, masks: Vec<u8>, values: Vec<u8>, offsets: Vec<u64> },
+    GuestEdit { kind: KindNumbers, cells: u64, rights: Vec<u8>, table: Table, cell: u64, cell_masks: Vec<u8>, value: Vec<u8> },
 }
 use Request::*;
 
 /// In the order of the numbers that they have in oracle/data: a new call is the last.
-pub const CALLS: [&str; 15] = [
+pub const CALLS: [&str; 17] = [
     "encode",
     "decode",
     "decode_interleaved",
@@ -40,11 +42,13 @@ pub const CALLS: [&str; 15] = [
     "table_set",
     "table_pack",
     "table_preview",
+    "guest_read",
+    "guest_edit",
 ];
 
 /// The refusals that a call can give, by docs/DECISIONS.md, part 0. At the C boundary width and place come as numbers, so
 /// `partial_decode` has 1 as well.
-pub const REFUSALS: [&[u32]; 15] = [
+pub const REFUSALS: [&[u32]; 17] = [
     &[1, 2, 4, 5, 6],
     &[1, 2, 7, 8, 13, 14, 10, 5, 6],
     &[2, 7, 9, 11, 5, 6],
@@ -60,6 +64,8 @@ pub const REFUSALS: [&[u32]; 15] = [
     &[1, 2, 4, 5, 15, 16],
     &[1, 2, 4, 5],
     &[1, 2, 4, 5, 15, 16],
+    &[1, 2, 17, 4, 5, 6],
+    &[1, 2, 17, 4, 5, 15, 18, 16],
 ];
 
 /// Results by slot: a call uses some of masks (or none), values (the stored bytes of `encode`, the bytes of `reverse_endianness`, the
@@ -106,6 +112,8 @@ impl Request {
             TableSet { .. } => 12,
             TablePack { .. } => 13,
             TablePreview { .. } => 14,
+            GuestRead { .. } => 15,
+            GuestEdit { .. } => 16,
         }
     }
 
@@ -122,7 +130,9 @@ impl Request {
             | TableRead { kind, .. }
             | TableSet { kind, .. }
             | TablePack { kind, .. }
-            | TablePreview { kind, .. } => kind[4] == 1,
+            | TablePreview { kind, .. }
+            | GuestRead { kind, .. }
+            | GuestEdit { kind, .. } => kind[4] == 1,
             _ => false,
         }
     }
@@ -134,7 +144,8 @@ impl Request {
             | Extract { masks, .. }
             | Merge { masks, .. }
             | EncodeInterleaved { masks, .. }
-            | TableMake { masks, .. } => masks.iter().any(|&byte| byte > 1),
+            | TableMake { masks, .. }
+            | GuestRead { masks, .. } => masks.iter().any(|&byte| byte > 1),
             _ => false,
         }
     }
@@ -157,6 +168,8 @@ impl Request {
             [true, true, true, true],
             [false, true, true, false],
             [false; 4],
+            [true, true, true, false],
+            [true, true, true, true],
         ][self.call()]
     }
 
@@ -164,7 +177,7 @@ impl Request {
     pub fn in_place(&self) -> Option<Results> {
         match self {
             ReverseEndianness { bytes, .. } => Some(Results { values: bytes.clone(), ..Results::default() }),
-            TableSet { table, .. } => Some(table.clone().into()),
+            TableSet { table, .. } | GuestEdit { table, .. } => Some(table.clone().into()),
             TablePack { table, .. } => {
                 Some(Results { values: table.store.clone(), offsets: table.starts.clone(), ..Results::default() })
             }
@@ -178,7 +191,7 @@ impl Request {
             [r.masks.len(), r.values.len(), r.offsets.len(), r.lengths.len()].map(|length| length as u64);
         match self {
             ReverseEndianness { .. } | TablePack { .. } => vec![r.whole],
-            TableSet { .. } => vec![],
+            TableSet { .. } | GuestEdit { .. } => vec![],
             TablePreview { .. } => vec![r.whole, r.unpacked],
             TableMake { .. } => vec![masks, offsets, lengths, values],
             _ => {
@@ -232,6 +245,12 @@ impl Request {
                 let foreseen = judge::table_preview(*kind, *cells, table, *cell, cell_masks, value);
                 foreseen.map(|[whole, unpacked]| Results { whole, unpacked, ..Results::default() })
             }
+            GuestRead { kind, shape, rights, masks, values, offsets } => {
+                judge::guest_read(*kind, shape, rights, masks, values, offsets).map(Results::from)
+            }
+            GuestEdit { kind, cells, rights, table, cell, cell_masks, value } => {
+                judge::guest_edit(*kind, *cells, rights, table, *cell, cell_masks, value).map(Results::from)
+            }
         }
     }
 
@@ -241,7 +260,9 @@ impl Request {
             Encode { shape, masks, values, offsets, .. } | EncodeInterleaved { shape, masks, values, offsets, .. } => {
                 shape.len() + masks.len() + values.len() + offsets.len()
             }
-            Extract { shape, masks, values, offsets, .. } => shape.len() + masks.len() + values.len() + offsets.len(),
+            Extract { shape, masks, values, offsets, .. } | GuestRead { shape, masks, values, offsets, .. } => {
+                shape.len() + masks.len() + values.len() + offsets.len()
+            }
             Merge { subsets, masks, values, offsets, .. } => subsets.len() + masks.len() + values.len() + offsets.len(),
             Decode { bytes, .. }
             | DecodeInterleaved { bytes, .. }
@@ -249,9 +270,11 @@ impl Request {
             | ReverseEndianness { bytes, .. } => bytes.len(),
             SubsetCells { .. } | Generate { .. } => 0,
             TableMake { masks, values, offsets, store, .. } => masks.len() + values.len() + offsets.len() + store,
-            TableRead { table, .. } | TableSet { table, .. } | TablePack { table, .. } | TablePreview { table, .. } => {
-                table.masks.len() + table.starts.len() + table.lengths.len() + table.store.len()
-            }
+            TableRead { table, .. }
+            | TableSet { table, .. }
+            | TablePack { table, .. }
+            | TablePreview { table, .. }
+            | GuestEdit { table, .. } => table.masks.len() + table.starts.len() + table.lengths.len() + table.store.len(),
         }
     }
 }

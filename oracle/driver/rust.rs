@@ -58,8 +58,11 @@ pub enum Body {
     Own,
     /// Extract and merge of fixed kinds and the masks of extract have no body there. They are asked for as ragged cells of one size.
     AsRagged,
+    /// `guest_read` of kinds with masks: there are no rights. The outermost mask is cleared here; the rest form is what the Rust writes of that and reads
+    /// again.
+    AsRest,
     /// `subset_cells`: the indexers are not listed. `encode_interleaved`: vlen_v2.rs only reads. `generate`: there is no load. There is no
-    /// working table. Kinds with packed masks: the Rust has masks of bytes only.
+    /// working table, so no guest's edit. Kinds with packed masks: the Rust has masks of bytes only.
     None,
 }
 pub fn body(request: &Request) -> Body {
@@ -69,6 +72,8 @@ pub fn body(request: &Request) -> Body {
         Merge { kind, .. } if kind[1] == 0 => Body::AsRagged,
         SubsetCells { .. } | EncodeInterleaved { .. } | Generate { .. } => Body::None,
         TableMake { .. } | TableRead { .. } | TableSet { .. } | TablePack { .. } | TablePreview { .. } => Body::None,
+        GuestRead { kind, .. } if kind[0] > 0 => Body::AsRest,
+        GuestRead { .. } | GuestEdit { .. } => Body::None,
         _ => Body::Own,
     }
 }
@@ -117,6 +122,13 @@ impl Build {
             }
             SubsetCells { .. } | EncodeInterleaved { .. } | Generate { .. } => unreachable!(),
             TableMake { .. } | TableRead { .. } | TableSet { .. } | TablePack { .. } | TablePreview { .. } => unreachable!(),
+            GuestRead { kind, shape, rights, masks, values, offsets } => {
+                let mut masks = masks.clone();
+                rights.iter().zip(&mut masks).filter(|(right, _)| **right == 0).for_each(|(_, mask)| *mask = 0);
+                let stored = (self.encode)(four(kind), shape, &masks, values, offsets)?;
+                (self.decode)(four(kind), shape, &stored).map(array)
+            }
+            GuestEdit { .. } => unreachable!(),
         }
     }
 }

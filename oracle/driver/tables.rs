@@ -11,7 +11,7 @@ use crate::rng::Rng;
 use judge::Table;
 
 /// Store bytes at most.
-const STORE: usize = 16_777_216;
+pub const STORE: usize = 16_777_216;
 
 fn make(kind: [u64; 5], cells: usize, c: &Content, store: usize) -> Request {
     let (masks, values, offsets) = (c.masks.clone(), c.values.clone(), c.offsets.clone());
@@ -20,7 +20,7 @@ fn make(kind: [u64; 5], cells: usize, c: &Content, store: usize) -> Request {
 fn read(kind: [u64; 5], table: &Table) -> Request {
     TableRead { kind, cells: table.starts.len() as u64, table: table.clone() }
 }
-fn set(kind: [u64; 5], table: &Table, cell: u64, cell_masks: &[u8], value: &[u8]) -> Request {
+pub fn set(kind: [u64; 5], table: &Table, cell: u64, cell_masks: &[u8], value: &[u8]) -> Request {
     let cells = table.starts.len() as u64;
     TableSet { kind, cells, table: table.clone(), cell, cell_masks: cell_masks.to_vec(), value: value.to_vec() }
 }
@@ -37,12 +37,12 @@ fn ask(sink: &mut dyn Sink, request: Request) {
 }
 
 /// A table kind, with either mask form.
-fn any_table_kind(rng: &mut Rng, depth: usize) -> [u64; 5] {
+pub fn any_table_kind(rng: &mut Rng, depth: usize) -> [u64; 5] {
     let (width, place) = (rng.pick(&[4, 8]), rng.below(2) as u64);
     let kind = ragged(depth, width, place);
     if rng.once_in(4) { packed(kind) } else { kind }
 }
-fn any_cells(rng: &mut Rng) -> usize {
+pub fn any_cells(rng: &mut Rng) -> usize {
     match rng.below(16) {
         0 => 1,
         1..=10 => 1 + rng.below(8),
@@ -62,7 +62,7 @@ fn resting(rng: &mut Rng, depth: usize, cells: usize) -> (Vec<u8>, Vec<bool>) {
     (masks, shown.iter().map(|&mark| mark == 1).collect())
 }
 /// Cells in any order, with gaps between them that are `gap` bytes at most, and so many behind the last.
-fn scattered(rng: &mut Rng, kind: [u64; 5], cells: usize, gap: usize, behind: usize) -> Table {
+pub fn scattered(rng: &mut Rng, kind: [u64; 5], cells: usize, gap: usize, behind: usize) -> Table {
     let (masks, shown) = resting(rng, kind[0] as usize, cells);
     let lengths: Vec<usize> =
         value_lengths(rng, cells).iter().zip(&shown).map(|(&length, &shown)| if shown { length } else { 0 }).collect();
@@ -85,7 +85,7 @@ fn scattered(rng: &mut Rng, kind: [u64; 5], cells: usize, gap: usize, behind: us
     Table { masks, starts, lengths: lengths.iter().map(|&n| n as u64).collect(), store: rng.bytes(end + behind) }
 }
 /// A table as it is made, in a store with so many bytes behind the cells.
-fn made(rng: &mut Rng, kind: [u64; 5], cells: usize, behind: usize) -> Table {
+pub fn made(rng: &mut Rng, kind: [u64; 5], cells: usize, behind: usize) -> Table {
     let c = content(rng, kind, cells);
     let mut table = judge::table_make(kind, cells as u64, &c.masks, &c.values, &c.offsets, STORE as u64).unwrap();
     table.store.extend(rng.bytes(behind));
@@ -119,7 +119,7 @@ fn setting_length(rng: &mut Rng, table: &Table, cell: usize) -> usize {
         _ => rng.below(6) as u64,
     }) as usize
 }
-fn a_setting(rng: &mut Rng, kind: [u64; 5], table: &Table) -> Request {
+pub fn a_setting(rng: &mut Rng, kind: [u64; 5], table: &Table) -> Request {
     let cell = rng.below(table.starts.len());
     let length = setting_length(rng, table, cell);
     let same = rng.once_in(8) && table.lengths[cell] as usize == length;
@@ -175,14 +175,14 @@ fn pack_all(sink: &mut dyn Sink, kind: [u64; 5], mut table: Table, most: u64) {
 // ---------------------------------------------------------------- broken tables
 
 /// One mask byte more or less, and no byte over 01.
-fn other_length(rng: &mut Rng, masks: &[u8]) -> Vec<u8> {
+pub fn other_length(rng: &mut Rng, masks: &[u8]) -> Vec<u8> {
     match masks.split_last() {
         Some((_, fewer)) if rng.below(2) == 0 => fewer.to_vec(),
         _ => [masks, &[rng.below(2) as u8]].concat(),
     }
 }
 /// One rule broken, of every sort.
-fn broken(rng: &mut Rng, depth: usize, table: &Table) -> Table {
+pub fn broken(rng: &mut Rng, depth: usize, table: &Table) -> Table {
     let mut t = table.clone();
     let cells = t.starts.len();
     let cell = rng.below(cells);
@@ -235,7 +235,7 @@ pub fn faulty_table(rng: &mut Rng, kind: &mut [u64; 5], cells: &mut u64) {
         };
     }
 }
-fn faulty(rng: &mut Rng, request: &Request) -> Request {
+pub fn faulty(rng: &mut Rng, request: &Request) -> Request {
     let mut r = request.clone();
     match &mut r {
         TableMake { kind, cells, masks, values, offsets, store } => {

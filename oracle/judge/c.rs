@@ -443,6 +443,25 @@ pub unsafe extern "C" fn dpx_table_read(
     }
 }
 
+/// What a setting leaves, into the lists that were lent in place.
+unsafe fn edit(
+    masks: (*mut u8, usize),
+    starts: (*mut u64, usize),
+    lengths: (*mut u64, usize),
+    store: (*mut u8, usize),
+    set: impl FnOnce(&Table) -> Result<Table, Refusal>,
+) -> u32 {
+    number((|| unsafe {
+        let table = table_of((masks.0, masks.1), (starts.0, starts.1), (lengths.0, lengths.1), (store.0, store.1));
+        let after = set(&table)?;
+        put(&after.masks, masks.0);
+        put(&after.starts, starts.0);
+        put(&after.lengths, lengths.0);
+        put(&after.store, store.0);
+        Ok(())
+    })())
+}
+
 #[unsafe(no_mangle)]
 pub unsafe extern "C" fn dpx_table_set(
     kind: DpxKind,
@@ -461,17 +480,12 @@ pub unsafe extern "C" fn dpx_table_set(
     value: *const u8,
     value_count: usize,
 ) -> u32 {
-    number((|| unsafe {
-        let table =
-            table_of((masks, masks_count), (starts, starts_count), (cell_lengths, cell_lengths_count), (store, store_count));
-        let after =
-            table_set(kind.numbers(), cells, &table, cell, given(cell_masks, cell_masks_count), given(value, value_count))?;
-        put(&after.masks, masks);
-        put(&after.starts, starts);
-        put(&after.lengths, cell_lengths);
-        put(&after.store, store);
-        Ok(())
-    })())
+    unsafe {
+        let (cell_masks, value) = (given(cell_masks, cell_masks_count), given(value, value_count));
+        edit((masks, masks_count), (starts, starts_count), (cell_lengths, cell_lengths_count), (store, store_count), |table| {
+            table_set(kind.numbers(), cells, table, cell, cell_masks, value)
+        })
+    }
 }
 
 #[unsafe(no_mangle)]
@@ -527,4 +541,67 @@ pub unsafe extern "C" fn dpx_table_preview(
         put(&foreseen, lengths);
         Ok(())
     })())
+}
+
+#[unsafe(no_mangle)]
+pub unsafe extern "C" fn dpx_guest_read(
+    kind: DpxKind,
+    shape: *const u64,
+    shape_count: usize,
+    rights: *const u8,
+    rights_count: usize,
+    masks: *const u8,
+    masks_count: usize,
+    values: *const u8,
+    values_count: usize,
+    offsets: *const u64,
+    offsets_count: usize,
+    out_masks: *mut u8,
+    out_masks_count: usize,
+    out_values: *mut u8,
+    out_values_count: usize,
+    out_offsets: *mut u64,
+    out_offsets_count: usize,
+    lengths: *mut u64,
+) -> u32 {
+    unsafe {
+        let seen = guest_read(
+            kind.numbers(),
+            given(shape, shape_count),
+            given(rights, rights_count),
+            given(masks, masks_count),
+            given(values, values_count),
+            given(offsets, offsets_count),
+        );
+        deliver(seen, (out_masks, out_masks_count), (out_values, out_values_count), (out_offsets, out_offsets_count), lengths)
+    }
+}
+
+#[unsafe(no_mangle)]
+pub unsafe extern "C" fn dpx_guest_edit(
+    kind: DpxKind,
+    cells: u64,
+    rights: *const u8,
+    rights_count: usize,
+    masks: *mut u8,
+    masks_count: usize,
+    starts: *mut u64,
+    starts_count: usize,
+    cell_lengths: *mut u64,
+    cell_lengths_count: usize,
+    store: *mut u8,
+    store_count: usize,
+    cell: u64,
+    cell_masks: *const u8,
+    cell_masks_count: usize,
+    value: *const u8,
+    value_count: usize,
+) -> u32 {
+    unsafe {
+        let rights = given(rights, rights_count);
+        let (cell_masks, value) = (given(cell_masks, cell_masks_count), given(value, value_count));
+        edit((masks, masks_count), (starts, starts_count), (cell_lengths, cell_lengths_count), (store, store_count), |table| {
+            guest_edit(kind.numbers(), cells, rights, table, cell, cell_masks, value)
+        })
+    }
 }

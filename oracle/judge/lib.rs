@@ -1,4 +1,4 @@
-//! The judge: what docs/SPEC.md and docs/DECISIONS.md say of the fifteen calls, as plain code.
+//! The judge: what docs/SPEC.md and docs/DECISIONS.md say of the seventeen calls, as plain code.
 //!
 //! Each function takes what the call takes, as numbers and slices, and gives the result or the refusal number. Outputs are not lent:
 //! `fits` says where a lent output is too short (6), and c.rs puts a result into lent outputs.
@@ -303,11 +303,15 @@ fn read_content(kind: Kind, depth: usize, cells: usize, bytes: &[u8]) -> Result<
     for plane in inner {
         planes.push(spread(cells, &set, &plane, 0));
     }
-    let null = match kind.form {
+    Ok((planes, spread(cells, &set, &set_values, null_value(kind.form))))
+}
+
+/// What a null is read with: zero bytes, or none.
+fn null_value(form: Form) -> Vec<u8> {
+    match form {
         Form::Fixed { size, .. } => vec![0; size],
         Form::Ragged { .. } => vec![],
-    };
-    Ok((planes, spread(cells, &set, &set_values, null)))
+    }
 }
 
 /// The bytes of a stored mask of so many cells.
@@ -668,10 +672,10 @@ fn set_levels(levels: &[u8]) -> usize {
 }
 
 /// The rest form of a cell: what is below a null is cleared.
-fn rested(levels: &[u8], value: &[u8]) -> (Vec<u8>, Vec<u8>) {
+fn rested(form: Form, levels: &[u8], value: &[u8]) -> (Vec<u8>, Vec<u8>) {
     let set = set_levels(levels);
     let masks = (0..levels.len()).map(|level| u8::from(level < set)).collect();
-    (masks, if set == levels.len() { value.to_vec() } else { vec![] })
+    (masks, if set == levels.len() { value.to_vec() } else { null_value(form) })
 }
 
 impl Table {
@@ -769,7 +773,7 @@ pub fn table_make(
     let mut table = Table::default();
     for (cell, value) in cell_values(kind.form, cells, values, offsets).iter().enumerate() {
         let levels: Vec<u8> = planes.iter().map(|plane| plane[cell]).collect();
-        let (levels, value) = rested(&levels, value);
+        let (levels, value) = rested(kind.form, &levels, value);
         (0..kind.depth).for_each(|level| planes[level][cell] = levels[level]);
         table.starts.push(if value.is_empty() { 0 } else { table.store.len() as u64 });
         table.lengths.push(value.len() as u64);
@@ -803,6 +807,19 @@ pub fn table_set(
 ) -> Result<Table, Refusal> {
     let kind = table_kind(k)?;
     let cells = table_cells(cells)?;
+    settled(kind, cells, None, table, cell, cell_masks, value)
+}
+
+/// What is left to check of a setting, and the table afterwards. Where rights are given, they must show the cell.
+fn settled(
+    kind: Kind,
+    cells: usize,
+    rights: Option<&[u8]>,
+    table: &Table,
+    cell: u64,
+    cell_masks: &[u8],
+    value: &[u8],
+) -> Result<Table, Refusal> {
     table.check(kind.depth, cells)?;
     if cell_masks.len() != kind.depth || neither(cell_masks) {
         return Err(4);
@@ -812,7 +829,10 @@ pub fn table_set(
         return Err(15);
     }
     let cell = cell as usize;
-    let (levels, value) = rested(cell_masks, value);
+    if rights.is_some_and(|rights| !shows(rights, cell)) {
+        return Err(18);
+    }
+    let (levels, value) = rested(kind.form, cell_masks, value);
 
     // the old bytes are given up
     let mut table = table.clone();
@@ -865,6 +885,66 @@ pub fn table_pack(k: KindNumbers, cells: u64, table: &Table, most: u64) -> Resul
     let moved = displaced.len().min(most as usize);
     displaced[..moved].iter().for_each(|&(cell, to)| table.move_cell(cell, to));
     Ok((table, moved as u64))
+}
+
+// ---------------------------------------------------------------- what a guest may see and set
+
+/// 17 of a kind without masks, which could hide nothing; then 4 of a plane that is not one byte a cell, each 00 or 01.
+fn check_rights(kind: Kind, cells: usize, rights: &[u8]) -> Result<(), Refusal> {
+    if kind.depth == 0 {
+        return Err(17);
+    }
+    if rights.len() != cells || neither(rights) {
+        return Err(4);
+    }
+    Ok(())
+}
+
+fn shows(rights: &[u8], cell: usize) -> bool {
+    rights[cell] == 1
+}
+
+/// The outermost mask is cleared where the plane is 00, and what is then there is put in rest form.
+pub fn guest_read(
+    k: KindNumbers,
+    shape: &[u64],
+    rights: &[u8],
+    masks: &[u8],
+    values: &[u8],
+    offsets: &[u64],
+) -> Result<Array, Refusal> {
+    let kind = kind(k)?;
+    let cells = shape_cells(shape)?;
+    check_rights(kind, cells, rights)?;
+    check_array(kind, cells, masks, values, offsets)?;
+    let mut planes = planes(kind.depth, cells, masks);
+    let mut values = cell_values(kind.form, cells, values, offsets);
+    for cell in 0..cells {
+        if !shows(rights, cell) {
+            planes[0][cell] = 0;
+        }
+        let levels: Vec<u8> = planes.iter().map(|plane| plane[cell]).collect();
+        let (levels, value) = rested(kind.form, &levels, &values[cell]);
+        (0..kind.depth).for_each(|level| planes[level][cell] = levels[level]);
+        values[cell] = value;
+    }
+    Ok(array_of(kind.form, &planes, &values))
+}
+
+/// The table after the setting of a cell that the plane shows.
+pub fn guest_edit(
+    k: KindNumbers,
+    cells: u64,
+    rights: &[u8],
+    table: &Table,
+    cell: u64,
+    cell_masks: &[u8],
+    value: &[u8],
+) -> Result<Table, Refusal> {
+    let kind = table_kind(k)?;
+    let cells = table_cells(cells)?;
+    check_rights(kind, cells, rights)?;
+    settled(kind, cells, Some(rights), table, cell, cell_masks, value)
 }
 
 // ---------------------------------------------------------------- 6
