@@ -632,7 +632,7 @@ fn encode_interleaved(kind: [u64; 5], shape: &[u64], c: &Content) -> Request {
 fn decode(kind: [u64; 5], shape: &[u64], bytes: &[u8]) -> Request {
     Decode { kind, shape: shape.to_vec(), bytes: bytes.to_vec() }
 }
-fn extract(kind: [u64; 5], shape: &[u64], subset: &[u64], c: &Content) -> Request {
+pub fn extract(kind: [u64; 5], shape: &[u64], subset: &[u64], c: &Content) -> Request {
     Extract {
         kind,
         shape: shape.to_vec(),
@@ -642,7 +642,7 @@ fn extract(kind: [u64; 5], shape: &[u64], subset: &[u64], c: &Content) -> Reques
         offsets: c.offsets.clone(),
     }
 }
-fn merge(kind: [u64; 5], shape: &[u64], list: &[(Vec<u64>, Content)]) -> Request {
+pub fn merge(kind: [u64; 5], shape: &[u64], list: &[(Vec<u64>, Content)]) -> Request {
     let (mut subsets, mut masks, mut values, mut offsets) = (vec![], vec![], vec![], vec![]);
     for (subset, c) in list {
         subsets.extend(subset);

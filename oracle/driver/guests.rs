@@ -10,7 +10,7 @@ use crate::rng::Rng;
 use crate::tables::{self, STORE, a_setting, any_cells, any_table_kind, broken, made, other_length, scattered, set};
 use judge::Table;
 
-fn read(kind: [u64; 5], shape: &[u64], rights: &[u8], c: &Content) -> Request {
+pub fn read(kind: [u64; 5], shape: &[u64], rights: &[u8], c: &Content) -> Request {
     let (masks, values, offsets) = (c.masks.clone(), c.values.clone(), c.offsets.clone());
     GuestRead { kind, shape: shape.to_vec(), rights: rights.to_vec(), masks, values, offsets }
 }

@@ -10,6 +10,7 @@
 
 mod archive;
 mod cases;
+mod combined;
 mod guarded;
 mod guests;
 mod hidden;
@@ -127,6 +128,9 @@ struct Guests {
     /// Edits of shown cells held against the setting, and those that moved hidden cells; of hidden cells.
     shown: [u64; 2],
     hidden: u64,
+    /// Reads under two planes, cuts and merges with a read before and behind; parts of these merges.
+    combined: [u64; 3],
+    parts: u64,
 }
 const MASKS: [&str; 3] = ["no masks", "masks of bytes", "packed masks"];
 const ANSWERS: usize = 19;
@@ -153,7 +157,7 @@ struct Counts {
     /// As in BETWEEN.
     differences: [u64; BETWEEN.len()],
 }
-const BETWEEN: [&str; 8] = [
+const BETWEEN: [&str; 11] = [
     "archive and judge",
     "archive and Rust",
     "judge and Rust",
@@ -162,6 +166,9 @@ const BETWEEN: [&str; 8] = [
     "reads of two arrays that show a guest the same",
     "a guest's edit and the setting on a copy",
     "a hidden cell before and after a guest's edit",
+    "reads under two planes and under both",
+    "a read before a cut and behind it",
+    "reads before a merge and one behind it",
 ];
 
 fn say(outcome: &Outcome) -> String {
@@ -355,14 +362,9 @@ impl Compare {
         assert!(twin.judged() == *judged, "not the same: {}", shown(&twin));
         self.counts.guests.twins += 1;
         let needs = needs(request, judged);
-        let mut rooms = vec![needs, [0; 4]];
+        let mut rooms = rooms(needs);
         for bytes in [values.len(), others.len()].into_iter().flat_map(|bytes| [bytes, bytes.saturating_sub(1)]) {
             rooms.push([needs[0], bytes, needs[2], 0]);
-        }
-        for i in (0..3).filter(|&i| needs[i] > 0) {
-            let mut short = needs;
-            short[i] -= 1;
-            rooms.push(short);
         }
         for room in rooms {
             if !self.guarded.alike(request, &twin, room) {
@@ -436,6 +438,7 @@ impl Compare {
         self.set_on_a_copy(request, &observed);
         self.with_a_twin(request, judged);
         self.edited_on_a_copy(request, &observed);
+        self.rights_combined(request, judged);
         if self.stop_at_first && self.counts.differences != [0; BETWEEN.len()] {
             let seen: Vec<&str> = (0..BETWEEN.len()).filter(|&i| self.counts.differences[i] > 0).map(|i| BETWEEN[i]).collect();
             println!("first difference at request {}: {}", self.asked(), seen.join(", "));
@@ -485,11 +488,15 @@ impl Compare {
             "previews, each held against the setting on a copy: {}; of settings that pack other cells {}, that leave cells displaced {}",
             previews[0], previews[1], previews[2]
         );
-        let Guests { twins, shown, hidden } = self.counts.guests;
+        let Guests { twins, shown, hidden, combined, parts } = self.counts.guests;
         println!(
             "guests: {twins} reads held against that of another array that shows the same; {} edits of shown cells held against the setting, {} of \
              which moved hidden cells; {hidden} edits of hidden cells",
             shown[0], shown[1]
+        );
+        println!(
+            "rights that combine: {} reads under two planes, {} cuts and {} merges, of {parts} parts, with reads before and behind",
+            combined[0], combined[1], combined[2]
         );
         println!(
             "a mask byte over 01: stored, refused with 14, in {} requests; handed over in {}",
@@ -554,6 +561,16 @@ fn needs(request: &Request, judged: &Outcome) -> [usize; 4] {
         needs[1] = *store;
     }
     needs
+}
+/// As long as needed, none, and each one short.
+fn rooms(needs: [usize; 4]) -> Vec<[usize; 4]> {
+    let mut rooms = vec![needs, [0; 4]];
+    for i in (0..4).filter(|&i| needs[i] > 0) {
+        let mut short = needs;
+        short[i] -= 1;
+        rooms.push(short);
+    }
+    rooms
 }
 /// A refusal goes with an error or panic.
 fn agree(ours: &Outcome, rust: &Result<request::Results, String>) -> bool {

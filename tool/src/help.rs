@@ -288,6 +288,9 @@ hide a cell: another one is 17.
          All else is as in 'durpaxeta table set'. No hidden cell gets other masks or another value; where it lies may change. 16 can
          tell the guest how full the store is.
 
+A guest with two planes sees what both show: read the table under one of them, and then show or read what that stored under the
+other, in either order.
+
 Hand a guest what show prints or read stores, and nothing else. A working table, OUT of edit too, has every cell, and old bytes.
 What is wrong with the table itself is told to whoever runs the command, with the cell or the byte, be it hidden or not.
 

@@ -44,6 +44,7 @@ fn the_pictures_of_the_page() {
         ("", "2"),
         (KIND, "2x2"),
         (KIND, "2x2"),
+        (KIND, "1x2"),
     ];
     let pictures: Vec<&str> = page.split("```bytes\n").skip(1).map(|rest| rest.split("```").next().unwrap()).collect();
     assert_eq!(pictures.len(), tables.len());

@@ -1,7 +1,7 @@
 //! Guests: what a rights plane shows them of an array. Their edits of a working table are in table.rs.
 
 use crate::calls::{content, given, lend};
-use crate::{ffi, Array, ArrayRef, Lent, Mark, Refusal};
+use crate::{ffi, Array, ArrayRef, Kind, Lent, Mark, Order, Refusal, Values};
 use alloc::vec::Vec;
 
 /// A rights plane: of each cell of a table, in row order, whether a guest may see it. It is one byte a cell, 01 or 00, and can hold
@@ -33,6 +33,9 @@ pub struct Rights {
 }
 
 impl Rights {
+    /// The kind of a plane as an [`array`](Rights::array): cells of one byte, and no masks.
+    pub const KIND: Kind = Kind::fixed(0, 1, Order::Little);
+
     /// Of each cell, whether it is shown.
     ///
     /// ```
@@ -91,6 +94,99 @@ impl Rights {
     /// ```
     pub fn shows(&self, cell: usize) -> bool {
         self.bytes.get(cell).is_some_and(|&byte| Mark::of(byte) == Mark::Set)
+    }
+
+    /// What both planes show. [`guest_read`] under one of them and then, on what was seen, under the other is one read under this
+    /// plane; in either order.
+    ///
+    /// # Errors
+    ///
+    /// `Content` if they speak of different counts of cells.
+    ///
+    /// ```
+    /// use durpaxeta::{guest_read, Array, Cell, Kind, Place, Refusal, Rights, Width};
+    ///
+    /// let (guest, host) = (Rights::new(&[true, true, false]), Rights::new(&[false, true, true]));
+    /// let both = guest.both(&host)?;
+    /// assert_eq!(both, Rights::new(&[false, true, false]));
+    ///
+    /// let kind = Kind::ragged(1, Width::Four, Place::Start);
+    /// let table = Array::from_cells(kind, &[3], &[Cell::Value(b"0-3"), Cell::Value(b"8"), Cell::Value(b"")])?;
+    /// assert_eq!(guest_read(&guest_read(&table, &guest)?, &host)?, guest_read(&table, &both)?);
+    ///
+    /// assert_eq!(guest.both(&Rights::new(&[true])), Err(Refusal::Content));
+    /// # Ok::<(), Refusal>(())
+    /// ```
+    pub fn both(&self, other: &Rights) -> Result<Rights, Refusal> {
+        match self.cell_count() == other.cell_count() {
+            true => Ok((0..self.cell_count()).map(|cell| self.shows(cell) && other.shows(cell)).collect()),
+            false => Err(Refusal::Content),
+        }
+    }
+
+    /// The plane as an array of [`Rights::KIND`], for [`extract`](crate::extract) and [`merge`](crate::merge): where a table is cut or
+    /// merged, so is its plane. A read of the outcome is then what a read beforehand, cut or merged, gives. A shape of another count
+    /// of cells is refused by the calls.
+    ///
+    /// A plane is cut:
+    ///
+    /// ```
+    /// use durpaxeta::{extract, guest_read, Array, Cell, Kind, Place, Rights, Subset, Width};
+    ///
+    /// let kind = Kind::ragged(1, Width::Four, Place::Start);
+    /// let cells = [Cell::Value(b"0-3"), Cell::Value(b"8"), Cell::Null { level: 1 }, Cell::Value(b"4-7")];
+    /// let table = Array::from_cells(kind, &[2, 2], &cells)?;
+    /// let rights = Rights::new(&[true, false, true, false]);
+    ///
+    /// let second_row = Subset::new(&[1, 0], &[1, 2])?;
+    /// let cut = Rights::from_array(extract(rights.array(&table.shape), &second_row)?)?;
+    /// assert_eq!(cut, Rights::new(&[true, false]));
+    ///
+    /// let read_then_cut = extract(&guest_read(&table, &rights)?, &second_row)?;
+    /// assert_eq!(guest_read(&extract(&table, &second_row)?, &cut)?, read_then_cut);
+    /// # Ok::<(), durpaxeta::Refusal>(())
+    /// ```
+    ///
+    /// Two are merged:
+    ///
+    /// ```
+    /// use durpaxeta::{merge, Chunk, Rights, Subset};
+    ///
+    /// let columns = [Subset::new(&[0, 0], &[2, 1])?, Subset::new(&[0, 1], &[2, 1])?];
+    /// let rights = [Rights::new(&[true, true]), Rights::new(&[false, true])];
+    /// let chunks = [0, 1].map(|i| Chunk::new(&columns[i], rights[i].array(columns[i].lengths())));
+    /// let merged = Rights::from_array(merge(Rights::KIND, &[2, 2], &chunks)?)?;
+    /// assert_eq!(merged, Rights::new(&[true, false, true, true]));
+    /// # Ok::<(), durpaxeta::Refusal>(())
+    /// ```
+    pub fn array<'a>(&'a self, shape: &'a [u64]) -> ArrayRef<'a> {
+        ArrayRef { kind: Rights::KIND, shape, masks: &[], values: &self.bytes, offsets: &[] }
+    }
+
+    /// The plane that such an array is; of its shape only the count of cells is kept.
+    ///
+    /// # Errors
+    ///
+    /// `Kind` if it has masks or its cells are not of one byte. `Content` if its lengths disagree, or a byte is neither 00 nor 01.
+    ///
+    /// ```
+    /// use durpaxeta::{Array, Cell, Kind, Order, Refusal, Rights};
+    ///
+    /// let array = Array::from_cells(Rights::KIND, &[2], &[Cell::Value(&[1]), Cell::Value(&[0])])?;
+    /// assert_eq!(Rights::from_array(array)?, Rights::new(&[true, false]));
+    ///
+    /// let wide = Array::from_cells(Kind::fixed(0, 2, Order::Little), &[1], &[Cell::Value(&[1, 0])])?;
+    /// assert_eq!(Rights::from_array(wide), Err(Refusal::Kind));
+    /// # Ok::<(), Refusal>(())
+    /// ```
+    pub fn from_array(array: Array) -> Result<Rights, Refusal> {
+        if array.kind.depth != 0 || !matches!(array.kind.values, Values::Fixed { size: 1, .. }) {
+            return Err(Refusal::Kind);
+        }
+        if array.masks.len() + array.offsets.len() != 0 || array.values.len() != array.cell_count() {
+            return Err(Refusal::Content);
+        }
+        Rights::from_bytes(array.values)
     }
 }
 

@@ -4,10 +4,11 @@ use durpaxeta::*;
 
 const PAGE: &str = include_str!("../../../docs/FORMAT.md");
 
-/// The affinity table of part 5, and of part 16 the planes of its two guests.
+/// The affinity table of part 5, and of part 16 the planes of its two guests, and of its first host.
 const AFFINITY: [Cell<'_>; 4] =
     [Cell::Value(b"0-3,8"), Cell::Value(b""), Cell::Null { level: 1 }, Cell::Null { level: 2 }];
 const GUESTS: [[bool; 4]; 2] = [[true, false, true, false], [false, true, false, true]];
+const HOST: [bool; 4] = [true, true, false, false];
 
 /// A part of the page.
 fn part(number: &str) -> &'static str {
@@ -32,6 +33,15 @@ fn pictures(text: &str, fence: &str) -> Vec<Vec<u8>> {
         pictures.push(bytes);
     }
     pictures
+}
+
+/// A cell as the page's tables say it.
+fn words(array: &Array, cell: usize) -> String {
+    match array.cell(cell) {
+        Some(Cell::Value(value)) => format!("value {:?}", std::str::from_utf8(value).unwrap()),
+        Some(Cell::Null { level }) => format!("null at level {level}"),
+        None => panic!("no cell {cell}"),
+    }
 }
 
 fn stored(kind: Kind, shape: &[u64], cells: &[Cell<'_>]) -> Vec<u8> {
@@ -80,10 +90,12 @@ fn pictures_are_real() {
     assert!(longer.starts_with(&empty_at_end));
     let affinity = Array::from_cells(start(2), &[2, 2], &AFFINITY).unwrap();
     let seen = GUESTS.map(|plane| encode(&guest_read(&affinity, &Rights::new(&plane)).unwrap()).unwrap());
+    let of_host = stored(start(2), &[1, 2], &[null1, empty]);
     // The library writes no such byte.
     let tail = [&wanted[12][..], b"!"].concat();
     let ends = [empty_at_end, longer, tail];
-    let all: Vec<&Vec<u8>> = wanted.iter().chain(&packed).chain(&loads).chain(&ends).chain(&seen).collect();
+    let all: Vec<&Vec<u8>> =
+        wanted.iter().chain(&packed).chain(&loads).chain(&ends).chain(&seen).chain([&of_host]).collect();
     let pictures = pictures(PAGE, "bytes");
     assert_eq!(pictures.len(), all.len());
     for (number, (picture, wanted)) in pictures.iter().zip(all).enumerate() {
@@ -93,7 +105,7 @@ fn pictures_are_real() {
     assert_eq!((interleaved.cell(0), interleaved.cell(1)), (Some(&b"A"[..]), Some(&b""[..])));
 
     let lengths: Vec<usize> = pictures.iter().map(Vec::len).collect();
-    assert_eq!(lengths, [4, 4, 22, 34, 23, 19, 38, 64, 51, 50, 34, 17, 13, 21, 37, 19, 27, 59, 16, 32, 14, 58, 54]);
+    assert_eq!(lengths, [4, 4, 22, 34, 23, 19, 38, 64, 51, 50, 34, 17, 13, 21, 37, 19, 27, 59, 16, 32, 14, 58, 54, 51]);
 }
 
 /// Part 8.
@@ -230,11 +242,6 @@ fn guests_are_real() {
     let affinity = Array::from_cells(kind, &[2, 2], &AFFINITY).unwrap();
     let planes = GUESTS.map(|plane| Rights::new(&plane));
     let seen = [0, 1].map(|guest| guest_read(&affinity, &planes[guest]).unwrap());
-    let words = |array: &Array, cell: usize| match array.cell(cell) {
-        Some(Cell::Value(value)) => format!("value {:?}", std::str::from_utf8(value).unwrap()),
-        Some(Cell::Null { level }) => format!("null at level {level}"),
-        None => panic!("no cell {cell}"),
-    };
     for (cell, name) in ["0,0", "0,1", "1,0", "1,1"].into_iter().enumerate() {
         let [table, one, other] = [&affinity, &seen[0], &seen[1]].map(|array| words(array, cell));
         let row = format!("\n| {name} | {table} | {one} | {other} |\n");
@@ -263,4 +270,43 @@ fn guests_are_real() {
     assert_eq!((&table.starts[..], table.cell(1)), (&[5, 3, 0, 0][..], Some(Cell::Value(b"12"))));
     stores.push(table.store);
     assert_eq!(pictures(page, "store"), stores);
+}
+
+/// Part 16: what both planes show, and what is read of a host and of both, cut and merged before and behind the read.
+#[test]
+fn planes_combine_as_the_page_says() {
+    let page = part("16");
+    let kind = Kind::ragged(2, Width::Four, Place::Start);
+    let shape = [2, 2];
+    let affinity = Array::from_cells(kind, &shape, &AFFINITY).unwrap();
+    let (guest, host) = (Rights::new(&GUESTS[1]), Rights::new(&HOST));
+    let both = guest.both(&host).unwrap();
+    let read = |array: &Array, plane: &Rights| guest_read(array, plane).unwrap();
+    let (seen, seen_by_both) = (read(&affinity, &guest), read(&affinity, &both));
+    let bytes = |plane: &Rights| plane.bytes().iter().map(|byte| format!("{byte:02X}")).collect();
+    let cells: Vec<String> = (0..4).map(|cell| words(&seen_by_both, cell)).collect();
+    for (name, row) in
+        [("guest 1", bytes(&guest)), ("host 0", bytes(&host)), ("both", bytes(&both)), ("is read", cells)]
+    {
+        let row = format!("\n| {name} | {} |\n", row.join(" | "));
+        assert!(page.contains(&row), "{row}");
+    }
+    for again in [read(&seen, &host), read(&read(&affinity, &host), &guest), read(&seen_by_both, &both)] {
+        assert_eq!(again, seen_by_both);
+    }
+
+    let hosts: [Subset; 2] = ["0..1,0..2", "1..2,0..2"].map(|subset| subset.parse().unwrap());
+    let planes = hosts.each_ref().map(|subset| extract(guest.array(&shape), subset).unwrap());
+    assert_eq!(planes.each_ref().map(|plane| &plane.values[..]), [[0, 1]; 2]);
+    let parts = [0, 1].map(|host| {
+        let cut = extract(&affinity, &hosts[host]).unwrap();
+        read(&cut, &Rights::from_array(planes[host].clone()).unwrap())
+    });
+    assert_eq!(encode(&parts[0]).unwrap(), pictures(page, "bytes")[2]);
+    assert_eq!(parts, hosts.each_ref().map(|subset| extract(&seen, subset).unwrap()));
+
+    let merged =
+        |parts: &[Array; 2]| merge(parts[0].kind, &shape, &[0, 1].map(|host| Chunk::new(&hosts[host], &parts[host])));
+    assert_eq!(merged(&planes).and_then(Rights::from_array), Ok(guest));
+    assert_eq!(merged(&parts), Ok(seen));
 }

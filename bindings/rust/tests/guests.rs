@@ -1,5 +1,6 @@
 //! Guests: the lines of docs/SPEC.md, S10.47 to S10.51, refusals in their order; and at random what a plane shows, that arrays
-//! which agree where it shows them are seen as one, and that an edit is the setting of a cell that it shows.
+//! which agree where it shows them are seen as one, that an edit is the setting of a cell that it shows, and that planes combine,
+//! are cut and are merged (S14.9 to S14.11).
 
 use durpaxeta::*;
 
@@ -59,6 +60,40 @@ fn planes_hold_two_bytes_alone() {
     assert_eq!((plane.cell_count(), plane.bytes()), (3, &[0, 1, 1][..]));
     assert_eq!([0, 1, 2, 3, usize::MAX].map(|cell| plane.shows(cell)), [false, true, true, false, false]);
     assert_eq!(plane, (0..3).map(|cell| cell > 0).collect());
+}
+
+/// S14.8.
+#[test]
+fn planes_combine_and_are_arrays() {
+    assert_eq!(rights(&[0, 0, 1, 1]).both(&rights(&[0, 1, 0, 1])), Ok(rights(&[0, 0, 0, 1])));
+    assert_eq!(rights(&[]).both(&rights(&[])), Ok(rights(&[])));
+    for other in [&[][..], &[1], &[1, 1, 1]] {
+        assert_eq!(rights(&[1, 1]).both(&rights(other)), Err(Refusal::Content));
+        assert_eq!(rights(other).both(&rights(&[1, 1])), Err(Refusal::Content));
+    }
+
+    let plane = rights(&[0, 1, 1, 0]);
+    let array = plane.array(&[2, 2]).to_array();
+    assert_eq!(array, self::array(Kind::fixed(0, 1, Order::Little), &[2, 2], &[], &[0, 1, 1, 0], &[]));
+    assert_eq!(Rights::from_array(array.clone()), Ok(plane.clone()));
+    // The order of a byte is no order, and there is no mask to be packed.
+    let same = Kind::fixed(0, 1, Order::Big).packed();
+    assert_eq!(Rights::from_array(Array { kind: same, ..array.clone() }), Ok(plane.clone()));
+    for other in [Kind::fixed(1, 1, Order::Little), pairs(0), kind(0)] {
+        assert_eq!(Rights::from_array(Array { kind: other, ..array.clone() }), Err(Refusal::Kind), "{other}");
+    }
+    for broken in [
+        Array { shape: vec![3], ..array.clone() },
+        Array { shape: vec![], ..array.clone() },
+        Array { masks: vec![1; 4], ..array.clone() },
+        Array { offsets: vec![0], ..array.clone() },
+        Array { values: vec![0, 1, 2, 0], ..array.clone() },
+    ] {
+        assert_eq!(Rights::from_array(broken.clone()), Err(Refusal::Content), "{broken:?}");
+    }
+    // Another count of cells than the shape's is refused by the calls.
+    assert_eq!(extract(plane.array(&[3]), &Subset::whole(&[3])), Err(Refusal::Content));
+    assert_eq!(extract(plane.array(&[]), &Subset::whole(&[])), Err(Refusal::Shape));
 }
 
 /// S10.47 and S10.48.
@@ -300,4 +335,211 @@ fn edited_at_random() {
         }
     }
     assert!(hidden > 500 && full > 100 && made > 500, "{hidden}, {full} and {made}");
+}
+
+impl Draws {
+    /// A kind with masks.
+    fn kind(&mut self, depth: u64) -> Kind {
+        let size = 1 + self.below(9) as u64;
+        let (width, place) = ([Width::Four, Width::Eight][self.below(2)], [Place::Start, Place::End][self.below(2)]);
+        let kind = [Kind::fixed(depth, size, Order::Big), Kind::ragged(depth, width, place)][self.below(2)];
+        [kind, kind.packed()][self.below(2)]
+    }
+
+    /// One to four sides, of up to 27 cells.
+    fn shape(&mut self) -> Vec<u64> {
+        let sides = 1 + self.below(4);
+        let longest = [9, 4, 3, 2][sides - 1];
+        (0..sides).map(|_| 1 + self.below(longest) as u64).collect()
+    }
+
+    fn array(&mut self, kind: Kind, shape: &[u64]) -> Array {
+        let cells: Vec<_> = (0..cell_count(shape)).map(|_| self.cell(kind)).collect();
+        Array { shape: shape.to_vec(), ..of_cells(kind, &cells) }
+    }
+
+    /// One that holds a cell.
+    fn subset(&mut self, shape: &[u64]) -> Subset {
+        let ranges: Vec<_> = shape
+            .iter()
+            .map(|&side| {
+                let start = self.below(side as usize) as u64;
+                start..start + 1 + self.below((side - start) as usize) as u64
+            })
+            .collect();
+        Subset::from_ranges(&ranges).unwrap()
+    }
+
+    /// Subsets that cover a shape: it is split, and what came of that is split again. In any order.
+    fn cover(&mut self, shape: &[u64]) -> Vec<Subset> {
+        let mut list = vec![(vec![0; shape.len()], shape.to_vec())];
+        for _ in 0..self.below(7) {
+            let (at, side) = (self.below(list.len()), self.below(shape.len()));
+            let (start, length) = (list[at].0[side], list[at].1[side]);
+            if length > 1 {
+                let first = 1 + self.below(length as usize - 1) as u64;
+                let mut second = list[at].clone();
+                list[at].1[side] = first;
+                (second.0[side], second.1[side]) = (start + first, length - first);
+                list.insert(self.below(list.len() + 1), second);
+            }
+        }
+        list.iter().map(|(starts, lengths)| Subset::new(starts, lengths).unwrap()).collect()
+    }
+}
+
+/// Calls that end in lent slices.
+type Way<'a> = &'a dyn Fn(Lent<'_>) -> Result<Array, Refusal>;
+
+/// How many answers were given, and how many refused with `Output`.
+#[derive(Default)]
+struct Answers {
+    given: usize,
+    refused: usize,
+}
+
+impl Answers {
+    /// The ways end alike: one answer, and the same left in the slices. Each of these gets every length from none to enough and one
+    /// more.
+    fn alike(&mut self, draws: &mut Draws, ways: &[Way<'_>]) {
+        let end = |way: Way<'_>, room: [usize; 3]| {
+            let (mut masks, mut values, mut offsets) = (vec![9; room[0]], vec![9; room[1]], vec![9; room[2]]);
+            let answer = way(Lent { masks: &mut masks, values: &mut values, offsets: &mut offsets });
+            (answer, masks, values, offsets)
+        };
+        let outcome = end(ways[0], [1000; 3]).0.unwrap();
+        let needs = [outcome.masks.len(), outcome.values.len(), outcome.offsets.len()];
+        for slice in 0..3 {
+            for length in 0..=needs[slice] + 1 {
+                let mut room = needs.map(|length| length + draws.below(2));
+                room[slice] = length;
+                let first = end(ways[0], room);
+                for way in &ways[1..] {
+                    assert_eq!(end(*way, room), first, "{room:?} where {needs:?} are needed");
+                }
+                match length < needs[slice] {
+                    true => assert_eq!(first.0, Err(Refusal::Output)),
+                    false => assert_eq!(first.0.as_ref(), Ok(&outcome)),
+                }
+                *(if first.0.is_ok() { &mut self.given } else { &mut self.refused }) += 1;
+            }
+        }
+    }
+
+    fn enough(self) {
+        assert!(self.given > 5000 && self.refused > 5000, "{} and {}", self.given, self.refused);
+    }
+}
+
+/// S14.9: reading under one plane and then under another, in either order, is reading under what both show; once more under the
+/// same one changes nothing.
+#[test]
+fn two_planes_at_random() {
+    let (draws, mut answers) = (&mut Draws(12), Answers::default());
+    for round in 0..1000 {
+        let kind = draws.kind(1 + round % 4);
+        let shape = draws.shape();
+        let array = draws.array(kind, &shape);
+        let planes = [0, 1].map(|_| draws.plane(cell_count(&shape)));
+        let [first, second] = &planes;
+        let seen = planes.each_ref().map(|plane| guest_read(&array, plane).unwrap());
+        let both = first.both(second).unwrap();
+        assert_eq!(second.both(first).as_ref(), Ok(&both));
+        let read =
+            |from: &Array, plane: &Rights, out: Lent<'_>| guest_read_into(from, plane, out).map(ArrayRef::to_array);
+        answers.alike(
+            draws,
+            &[&|out| read(&array, &both, out), &|out| read(&seen[0], second, out), &|out| read(&seen[1], first, out)],
+        );
+        answers.alike(draws, &[&|out| read(&array, first, out), &|out| read(&seen[0], first, out)]);
+    }
+    answers.enough();
+}
+
+/// S14.10: reading and then cutting is cutting array and plane and then reading.
+#[test]
+fn cut_at_random() {
+    let (draws, mut answers) = (&mut Draws(13), Answers::default());
+    for round in 0..1500 {
+        let kind = draws.kind(1 + round % 4);
+        let shape = draws.shape();
+        let array = draws.array(kind, &shape);
+        let plane = draws.plane(cell_count(&shape));
+        let subset = draws.subset(&shape);
+        let seen = guest_read(&array, &plane).unwrap();
+        let cut = extract(&array, &subset).unwrap();
+        let rights = Rights::from_array(extract(plane.array(&shape), &subset).unwrap()).unwrap();
+        answers.alike(
+            draws,
+            &[&|out| extract_into(&seen, &subset, out).map(ArrayRef::to_array), &|out| {
+                guest_read_into(&cut, &rights, out).map(ArrayRef::to_array)
+            }],
+        );
+    }
+    answers.enough();
+}
+
+/// S14.11: reading parts and then merging them is merging arrays and planes and then reading.
+#[test]
+fn merged_at_random() {
+    let (draws, mut answers) = (&mut Draws(14), Answers::default());
+    let mut parts = 0;
+    for round in 0..1500 {
+        let kind = draws.kind(1 + round % 4);
+        let shape = draws.shape();
+        let subsets = draws.cover(&shape);
+        let arrays: Vec<Array> = subsets.iter().map(|subset| draws.array(kind, subset.lengths())).collect();
+        let planes: Vec<Rights> = arrays.iter().map(|array| draws.plane(array.cell_count())).collect();
+        let seen: Vec<Array> = (0..subsets.len()).map(|i| guest_read(&arrays[i], &planes[i]).unwrap()).collect();
+        let merged = merge(kind, &shape, &chunks(&subsets, arrays.iter().map(Array::view))).unwrap();
+        let of_planes = planes.iter().zip(&subsets).map(|(plane, subset)| plane.array(subset.lengths()));
+        let rights = Rights::from_array(merge(Rights::KIND, &shape, &chunks(&subsets, of_planes)).unwrap()).unwrap();
+        let seen = chunks(&subsets, seen.iter().map(Array::view));
+        answers.alike(
+            draws,
+            &[&|out| merge_into(kind, &shape, &seen, out).map(ArrayRef::to_array), &|out| {
+                guest_read_into(&merged, &rights, out).map(ArrayRef::to_array)
+            }],
+        );
+        parts += subsets.len();
+    }
+    answers.enough();
+    assert!(parts > 3000, "{parts}");
+}
+
+fn chunks<'a>(subsets: &'a [Subset], arrays: impl Iterator<Item = ArrayRef<'a>>) -> Vec<Chunk<'a>> {
+    subsets.iter().zip(arrays).map(|(subset, array)| Chunk::new(subset, array)).collect()
+}
+
+/// The smallest inputs of docs/DECISIONS.md, O2 to O6: what is cut and merged, and where nothing is claimed.
+#[test]
+fn where_reading_first_is_and_is_no_other_way() {
+    let cut = |array: ArrayRef<'_>, start, length| extract(array, &Subset::new(&[start], &[length]).unwrap());
+    let plane = |array| Rights::from_array(array).unwrap();
+    assert_eq!(plane(cut(rights(&[1, 0]).array(&[2]), 1, 1).unwrap()), rights(&[0]));
+
+    let bytes = |depth| Kind::fixed(depth, 1, Order::Little);
+    let one = array(bytes(1), &[1], &[1], &[7], &[]);
+    let hidden = guest_read(&one, &rights(&[0])).unwrap();
+    assert_eq!(hidden, array(bytes(1), &[1], &[0], &[0], &[]));
+    assert_eq!(cut(hidden.view(), 0, 1), Ok(hidden.clone()));
+    assert_eq!(guest_read(&cut(one.view(), 0, 1).unwrap(), &rights(&[0])), Ok(hidden.clone()));
+
+    // A subset without a cell is no shape.
+    assert_eq!(cut(hidden.view(), 0, 0), Ok(array(bytes(1), &[0], &[], &[], &[])));
+    let nothing = plane(cut(rights(&[0]).array(&[1]), 0, 0).unwrap());
+    assert_eq!(guest_read(&cut(one.view(), 0, 0).unwrap(), &nothing), Err(Refusal::Shape));
+
+    // What is hidden has no bytes.
+    let subsets = [0, 1].map(|start| Subset::new(&[start], &[1]).unwrap());
+    let long = array(kind(1), &[1], &[1], &vec![0; MAX_VALUE_BYTES as usize], &[0, MAX_VALUE_BYTES]);
+    let short = guest_read(&long, &rights(&[0])).unwrap();
+    let merged = |part: &Array| merge(kind(1), &[2], &chunks(&subsets, [part.view(); 2].into_iter()));
+    assert_eq!(merged(&long), Err(Refusal::Size));
+    assert_eq!(merged(&short), Ok(array(kind(1), &[2], &[0, 0], b"", &[0, 0, 0])));
+
+    // At depth 0 not always the same refusal is met first.
+    let bare = array(bytes(0), &[1], &[], &[7], &[]);
+    assert_eq!(guest_read(&bare, &rights(&[1])), Err(Refusal::NoMasks));
+    assert_eq!(cut(bare.view(), 0, 2), Err(Refusal::Subset));
 }

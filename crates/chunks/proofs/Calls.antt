@@ -13,7 +13,7 @@ use Rattle.array.specs.Subset.{subset_of, NumbersOk}
 use Rattle.array.specs.Cells.{Cell, rest}
 use Rattle.array.specs.Content.{Content, Valid, layout}
 use Rattle.array.specs.declared.answer.Lengths.{Lengths}
-use Rattle.array.specs.Buffers.{Enough, enough_test}
+use Rattle.array.specs.Buffers.{Enough, enough_test, if_room}
 use Rattle.array.proofs.Answers.{pass}
 use Rattle.array.proofs.Rules.{kind_test_lem, shape_test_lem, numbers_test_lem, rest_passes, enough_test_lem}
 use Rattle.array.proofs.LayoutLaws.{Good}
@@ -29,12 +29,16 @@ use Rattle.chunks.specs.Calls.{extract_answer}
 
 -- ---- extract, on a valid array
 
+-- refused by nothing but 6
+pub extract_any : {k : Kind} {shape ns : List ℕ} {c : Content} → Valid k shape c → NumbersOk shape ns → (r : Lengths)
+    → extract_answer k shape ns c r ≡ if_room (enough_test (cut_of k shape c (subset_of (length shape) ns)) r) (cut_of k shape c (subset_of (length shape) ns))
+unfolding extract_answer
+extract_any {k} {shape} {ns} {c} v p r =
+    pass 1 (kind_test_lem k v.kind) (pass 2 (shape_test_lem shape v.shaped) (pass 3 (numbers_test_lem shape ns p) (rest_passes k (volume shape) c v.content v.small refl)))
+
 pub extract_gives : (k : Kind) (shape : List ℕ) (c : Content) → Valid k shape c → (ns : List ℕ) → NumbersOk shape ns → (r : Lengths)
     → Enough (cut_of k shape c (subset_of (length shape) ns)) r → extract_answer k shape ns c r ≡ gives (cut_of k shape c (subset_of (length shape) ns))
-unfolding extract_answer
-extract_gives k shape c v ns p r e =
-    pass 1 (kind_test_lem k v.kind) (pass 2 (shape_test_lem shape v.shaped) (pass 3 (numbers_test_lem shape ns p)
-    (rest_passes k (volume shape) c v.content v.small (pass 6 (enough_test_lem (cut_of k shape c (subset_of (length shape) ns)) r e) refl))))
+extract_gives k shape c v ns p r e = extract_any v p r ∙ pass 6 (enough_test_lem (cut_of k shape c (subset_of (length shape) ns)) r e) refl
 
 -- ---- encode and decode, on cells that were laid out
 

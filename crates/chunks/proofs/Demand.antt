@@ -1,8 +1,8 @@
 -- Demand 3 holds: through every subset and the merge nothing is refused, and the outcome is the rest form.
 -- Assumes nothing.
 use mathlib.Core.Path.{◌≡◌, refl, sym, ap, ap₂, ◌∙◌, subst}
-use Prim.Native.Nat.{ℕ, ◌*◌, ◌%◌, ◌<◌, ◌≤◌}
-use native.Mathlib.Nat.{le_of_eq, mul-mod_left}
+use Prim.Native.Nat.{ℕ, ◌<◌, ◌≤◌}
+use native.Mathlib.Nat.{le_of_eq}
 use native.Mathlib.Omega.{arith}
 use mathlib.Core.List.{List, [], ◌∷◌, ◌++◌, map}
 use lib.ListN.{length, get_or, length-map}
@@ -10,18 +10,17 @@ use Rattle.array.specs.Answer.{Answer, gives, and_then, unless}
 use Rattle.array.specs.Lists.{joined, All, count}
 use Rattle.array.specs.Kind.{Kind, Form, null_of}
 use Rattle.array.specs.Shape.{volume, ShapeOk}
-use Rattle.array.specs.Subset.{Subset, lengths, subset_of, subsets_of, SubsetOk, FullOk, NumbersOk, ManyOk, cells_in, cells_of_all}
+use Rattle.array.specs.Subset.{Subset, lengths, subset_of, subsets_of, SubsetOk, NumbersOk, cells_in, cells_of_all}
 use Rattle.array.specs.Cells.{Cell, leaf, rest}
 use Rattle.array.specs.Content.{Content, Valid, cells_of, array_test, size_test, leaves, layout, null_cell, rest_form}
 use Rattle.array.specs.declared.answer.Lengths.{Lengths}
 use Rattle.array.specs.Buffers.{lengths_of, Enough, enough_test, Taken, taken, taken_bytes, whole}
 use Rattle.array.proofs.Answers.{pass}
-use Rattle.array.proofs.Lists.{Sized, All-map, All-image, All-get_or, All-of, length-joined, map-append}
+use Rattle.array.proofs.Lists.{All-image, All-get_or, All-of, map-map, map-append}
 use Rattle.array.proofs.Sums.{count-append}
 use Rattle.array.proofs.Rules.{kind_test_lem, shape_test_lem, many_test_lem, array_test_lem, size_test_lem, enough_test_lem}
 use Rattle.array.proofs.Sizes.{OfSize, SizedAs, null_sized}
-use Rattle.array.proofs.SubsetLaws.{length-cells_in, cells_in_below, all_below, subset_shape, lengths_subset, subsets_joined}
-use Rattle.array.proofs.Geometry.{count_all}
+use Rattle.array.proofs.SubsetLaws.{length-cells_in, cells_in_below, all_below, subset_shape, lengths_subset}
 use Rattle.array.proofs.LayoutLaws.{cells_layout, Good, All-leaves, good_cells, good_layout}
 use Rattle.array.proofs.Resting.{good_rest}
 use Rattle.array.proofs.RestLaws.{rest_blank, leaf_blank}
@@ -34,6 +33,7 @@ use Rattle.chunks.specs.Calls.{extracted, extract_answer, merged, merge_answer}
 use Rattle.chunks.specs.Demand.{Entry, shape_of, rest_of_cut, one_way, each_way, whole_way, EntryOk, Covers, subsets_in, Demand3}
 use Rattle.chunks.proofs.Gather.{gather-map, put_back-gather, once_test_lem}
 use Rattle.chunks.proofs.GoodCells.{good_gather}
+use Rattle.chunks.proofs.Boxes.{Boxed, fit_subsets, subsets_are, many_boxes, once_each}
 use Rattle.chunks.proofs.Chunks.{first_chunk_lem, later_chunks_lem}
 use Rattle.chunks.proofs.Calls.{extract_gives, encode_gives, decode_gives, valid_layout}
 
@@ -162,34 +162,18 @@ module _ (k : Kind) (shape : List ℕ) (c : Content) (v : Valid k shape c) where
   abbrev numbers_in : List Entry → List (List ℕ)
   numbers_in es = map (λ (e : Entry). e.subset) es
 
-  sized_numbers : (es : List Entry) → All (EntryOk k shape c) es → Sized (2 * sides) (numbers_in es)
-  sized_numbers [] s = tt
-  sized_numbers (e ∷ es) s = (s.0.numbers.counted, sized_numbers es s.1)
+  boxed : (es : List Entry) → All (EntryOk k shape c) es → All (Boxed shape) (numbers_in es)
+  boxed [] s = tt
+  boxed (e ∷ es) s = (record { numbers = s.0.numbers; full = s.0.full }, boxed es s.1)
 
   same_subsets : (es : List Entry) → map (subset_of sides) (numbers_in es) ≡ subsets_in shape es
-  same_subsets [] = refl
-  same_subsets (e ∷ es) = ap (λ (bs : List Subset). subset_in e ∷ bs) (same_subsets es)
+  same_subsets es = map-map (λ (e : Entry). e.subset) (subset_of sides) es
 
-  subsets_are : (es : List Entry) → All (EntryOk k shape c) es → subsets_of sides (joined (numbers_in es)) ≡ subsets_in shape es
-  subsets_are es s = subsets_joined sides v.shaped.some_sides (numbers_in es) (sized_numbers es s) ∙ same_subsets es
+  listed_subsets : (es : List Entry) → All (EntryOk k shape c) es → subsets_of sides (joined (numbers_in es)) ≡ subsets_in shape es
+  listed_subsets es s = subsets_are shape v.shaped (numbers_in es) (boxed es s) ∙ same_subsets es
 
-  full_subsets : (es : List Entry) → All (EntryOk k shape c) es → All (FullOk shape) (subsets_in shape es)
-  full_subsets [] s = tt
-  full_subsets (e ∷ es) s =
-      (record { fits = s.0.numbers.fits; full = subst (All (λ n. 1 ≤ n)) (sym (lengths_subset sides e.subset s.0.numbers.counted)) s.0.full }, full_subsets es s.1)
-
-  many : (es : List Entry) → All (EntryOk k shape c) es → ManyOk shape (joined (numbers_in es))
-  many es s = record {
-    counted = ap (λ (n : ℕ). n % (2 * sides)) (length-joined (2 * sides) (numbers_in es) (sized_numbers es s)) ∙ mul-mod_left (length (numbers_in es)) (2 * sides);
-    each = subst (All (FullOk shape)) (sym (subsets_are es s)) (full_subsets es s);
-  }
-
-  fit_subsets : (es : List Entry) → All (EntryOk k shape c) es → All (SubsetOk shape) (subsets_in shape es)
-  fit_subsets es s = All-map (FullOk shape) (SubsetOk shape) (λ b p. p.fits) (subsets_in shape es) (full_subsets es s)
-
-  -- each cell in exactly one subset: each cell stands once in the subsets' cells
-  once_each : (es : List Entry) → All (EntryOk k shape c) es → Covers shape (subsets_in shape es) → Once size (cells_of_all shape (subsets_in shape es))
-  once_each es s o i h = count_all shape (subsets_in shape es) (fit_subsets es s) i h ∙ o i h
+  fit_entries : (es : List Entry) → All (EntryOk k shape c) es → All (SubsetOk shape) (subsets_in shape es)
+  fit_entries es s = subst (All (SubsetOk shape)) (same_subsets es) (fit_subsets shape (numbers_in es) (boxed es s))
 
   -- ---- the whole way
 
@@ -199,14 +183,14 @@ module _ (k : Kind) (shape : List ℕ) (c : Content) (v : Valid k shape c) where
   merge_gives es s o r e =
       let bs : List Subset = subsets_in shape es in
       let all : List ℕ = cells_of_all shape bs in
-      let fit : All (SubsetOk shape) bs = fit_subsets es s in
+      let fit : All (SubsetOk shape) bs = fit_entries es s in
       let cs : List (Cell d) = map resting (gather (null_cell k) own all) in
       let o' : AtMostOnce all = λ i h. le_of_eq (o i h) in
       let g : Good k (length all) cs = good_rest k (length all) (gather (null_cell k) own all) (good_gather k size own good_own all (all_below shape bs fit) o') in
-      pass 1 (kind_test_lem k v.kind) (pass 2 (shape_test_lem shape v.shaped) (pass 3 (many_test_lem shape (joined (numbers_in es)) (many es s))
+      pass 1 (kind_test_lem k v.kind) (pass 2 (shape_test_lem shape v.shaped) (pass 3 (many_test_lem shape (joined (numbers_in es)) (many_boxes shape v.shaped (numbers_in es) (boxed es s)))
       (ap (λ (bs' : List Subset). and_then (chunk_cells k bs' (chunks bs)) (λ xs.
       unless (size_test (length (joined (leaves d xs)))) 5
-      (unless (once_test size (cells_of_all shape bs')) 12 (unless (enough_test (merge_of k shape bs' xs) r) 6 (gives (merge_of k shape bs' xs)))))) (subsets_are es s)
+      (unless (once_test size (cells_of_all shape bs')) 12 (unless (enough_test (merge_of k shape bs' xs) r) 6 (gives (merge_of k shape bs' xs)))))) (listed_subsets es s)
       ∙ ap (λ (a : Answer (List (Cell d))). and_then a (λ xs.
       unless (size_test (length (joined (leaves d xs)))) 5
       (unless (once_test size all) 12 (unless (enough_test (merge_of k shape bs xs) r) 6 (gives (merge_of k shape bs xs)))))) (chunk_cells_lem bs fit o')
@@ -218,7 +202,7 @@ module _ (k : Kind) (shape : List ℕ) (c : Content) (v : Valid k shape c) where
       → whole_way k shape c es out ≡ gives (whole (rest_form k size c))
   unfolding merged
   whole_way_lem es s o out e =
-      let once : Once size (cells_of_all shape (subsets_in shape es)) = once_each es s o in
+      let once : Once size (cells_of_all shape (subsets_in shape es)) = once_each shape (subsets_in shape es) (fit_entries es s) o in
       ap (λ (a : Answer Content). and_then a (λ all. taken (merged k shape (joined (numbers_in es)) all out))) (each_way_lem es s (λ i h. le_of_eq (once i h)))
       ∙ taken_content (merge_answer k shape (joined (numbers_in es)) (chunks (subsets_in shape es)) (lengths_of out)) out
       ∙ ap (λ (a : Answer Content). and_then a (λ x. gives (whole x))) (merge_gives es s once (lengths_of out) e)

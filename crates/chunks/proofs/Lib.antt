@@ -2,6 +2,7 @@ pub mod Gather
 pub mod CutPlaces
 pub mod GoodCells
 pub mod Chunks
+pub mod Boxes
 pub mod Calls
 pub mod Demand
 pub mod Lines

@@ -44,7 +44,7 @@ put_back_any z y n js xs e o =
     map-from (λ i. lookup z i js xs) (λ i. lookup y i js xs) 0 n (λ i h. lookup_any z y i js xs e (omega (arith, o i (omega arith))))
 
 -- a rule that holds of each element holds of what is put back
-lookup_all : {A : Type 0} (P : A → Type 0) (z : A) → P z → (js : List ℕ) (xs : List A) → All P xs → (i : ℕ) → P (lookup z i js xs)
+pub lookup_all : {A : Type 0} (P : A → Type 0) (z : A) → P z → (js : List ℕ) (xs : List A) → All P xs → (i : ℕ) → P (lookup z i js xs)
 lookup_all P z p [] xs q i = p
 lookup_all P z p (j ∷ js) [] q i = p
 lookup_all P z p (j ∷ js) (x ∷ xs) q i = go (eqb i j) (lookup_all P z p js xs q.1 i)
@@ -53,7 +53,7 @@ lookup_all P z p (j ∷ js) (x ∷ xs) q i = go (eqb i j) (lookup_all P z p js x
     go true ih = q.0
     go false ih = ih
 
-put_back_all : {A : Type 0} (P : A → Type 0) (z : A) → P z → (n : ℕ) (js : List ℕ) (xs : List A) → All P xs → All P (put_back z n js xs)
+pub put_back_all : {A : Type 0} (P : A → Type 0) (z : A) → P z → (n : ℕ) (js : List ℕ) (xs : List A) → All P xs → All P (put_back z n js xs)
 put_back_all P z p n js xs q = All-image P (λ i. lookup z i js xs) (from 0 n) (All-of (λ i. P (lookup z i js xs)) (lookup_all P z p js xs q) (from 0 n))
 
 pub length-put_back : {A : Type 0} (z : A) (n : ℕ) (js : List ℕ) (xs : List A) → length (put_back z n js xs) ≡ n

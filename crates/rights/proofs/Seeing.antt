@@ -13,7 +13,8 @@ use Rattle.array.specs.Kind.{Kind, Form, fixed, ragged, null_of}
 use Rattle.array.specs.Cells.{Value, Cell, blank, rest}
 use Rattle.array.specs.Shape.{volume}
 use Rattle.array.specs.Content.{Content, ContentOk, ArrayOk, Valid, layout, null_cell}
-use Rattle.array.specs.Buffers.{lengths_of, Enough, content_outcome}
+use Rattle.array.specs.declared.answer.Lengths.{Lengths}
+use Rattle.array.specs.Buffers.{lengths_of, Enough, enough_test, if_room, content_outcome}
 use Rattle.array.specs.Places.{mask_at, value_in, cell_by, cell_at}
 use Rattle.array.proofs.Answers.{pass}
 use Rattle.array.proofs.Lists.{map-map, map-from}
@@ -74,14 +75,20 @@ module _ (k : Kind) (n : ℕ) (rights : List ℕ) (c : Content) (some : 0 < k.de
 
 -- ---- the law
 
+-- a valid array and a good plane are refused by nothing but 6
+pub read_any : {k : Kind} {shape rights : List ℕ} {c : Content} → Valid k shape c → 0 < k.depth → RightsOk (volume shape) rights → (room : Lengths)
+    → guest_answer k shape rights c room ≡ if_room (enough_test (guest_form k (volume shape) rights c) room) (guest_form k (volume shape) rights c)
+unfolding guest_answer
+read_any {k} {shape} {rights} {c} v some ok room =
+    pass 1 (kind_test_lem k v.kind) (pass 2 (shape_test_lem shape v.shaped) (pass 17 (masked_test_lem k some) (pass 4 (strict_bytes_test_lem (volume shape) rights ok)
+    (rest_passes k (volume shape) c v.content v.small refl))))
+
 given : {k : Kind} {shape rights : List ℕ} {c : Content} → Valid k shape c → 0 < k.depth → RightsOk (volume shape) rights → (out : Content)
     → Enough (guest_form k (volume shape) rights c) (lengths_of out)
     → guest_read k shape rights c out ≡ content_outcome (gives (guest_form k (volume shape) rights c)) out
-unfolding guest_read guest_answer
+unfolding guest_read
 given {k} {shape} {rights} {c} v some ok out room =
-    ap (λ a. content_outcome a out)
-    (pass 1 (kind_test_lem k v.kind) (pass 2 (shape_test_lem shape v.shaped) (pass 17 (masked_test_lem k some) (pass 4 (strict_bytes_test_lem (volume shape) rights ok)
-    (rest_passes k (volume shape) c v.content v.small (pass 6 (enough_test_lem (guest_form k (volume shape) rights c) (lengths_of out) room) refl))))))
+    ap (λ a. content_outcome a out) (read_any v some ok (lengths_of out) ∙ pass 6 (enough_test_lem (guest_form k (volume shape) rights c) (lengths_of out) room) refl)
 
 pub shows : Shows
 shows k shape rights c v some ok =

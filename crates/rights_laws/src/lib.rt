@@ -1,0 +1,2 @@
+// Rights planes combined, cut and merged: laws over the calls.
+#![tactic(auto)]
