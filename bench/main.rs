@@ -973,7 +973,7 @@ fn setting_sides(b: &Bench, kind: &[u64; 5], before: &tables::Table, cell: usize
 
 /// What a guest reads of arrays with masks half set and all set, where its plane shows none, half and all; and settings of a shown and of a hidden cell.
 fn guest_rows(b: &mut Bench) {
-    let sizes = [1, 2, 3, 4, 8, 12, 16, 64].map(|size| (fixed(1, size, 0), Values::Short));
+    let sizes = [1, 2, 3, 4, 8, 12, 16, 32, 48, 64].map(|size| (fixed(1, size, 0), Values::Short));
     let lists = VALUES.map(|values| (ragged(1, 8, 0), values));
     for (kind, values) in sizes.into_iter().chain(lists) {
         for depth in [1, 2, 4] {
