@@ -77,7 +77,7 @@
  * aligned for uint64_t.
  *
  * STACK. 16 KiB is enough for any call but dpx_table_read, dpx_table_set, dpx_table_preview, dpx_table_pack and dpx_guest_edit,
- * which put the cells in the order in which they lie, in 256 KiB: for these 272 KiB are enough, whatever the number of cells.
+ * which put the cells in the order in which they lie: for these 16 KiB are enough up to 2,048 cells, and 272 KiB above.
  * dpx_merge takes 8 KiB to mark the cells that its subsets hold.
  *
  * THREADS. There is no state: any number of calls may run at the same time, on outputs that do not overlap.

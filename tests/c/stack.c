@@ -1,7 +1,7 @@
 /*
  * How much stack the calls take: each runs on a stack of its own, filled before, and no byte below the promised 16 KiB
  * may change. Every call runs on a table of depth 4 with many cells, merge with one subset for each cell. Reading, setting,
- * previewing and packing a working table are promised 272 KiB, and so is a guest's edit of one.
+ * previewing and packing a working table of over 2,048 cells are promised 272 KiB, and so is a guest's edit of one.
  */
 #define _XOPEN_SOURCE 700
 #include "durpaxeta.h"
@@ -252,10 +252,10 @@ int main(void)
                  {"reverse_endianness", reverse_endianness, 0},
                  {"subset_cells", subset_cells, 0},
                  {"table_make", table_make, 0},
-                 {"table_read", read_small, LARGE},
-                 {"table_set", set_small, LARGE},
-                 {"table_preview", preview_small, LARGE},
-                 {"table_pack", pack_small, LARGE},
+                 {"table_read", read_small, 0},
+                 {"table_set", set_small, 0},
+                 {"table_preview", preview_small, 0},
+                 {"table_pack", pack_small, 0},
                  {"table_read, large", read_large, LARGE},
                  {"table_set, large", set_large, LARGE},
                  {"table_preview, large", preview_large, LARGE},
@@ -264,7 +264,7 @@ int main(void)
                  {"guest_read", guest_read, 0},
                  {"guest_read, counted", guest_read_counted, 0},
                  {"guest_read, fixed", guest_read_fixed, 0},
-                 {"guest_edit", edit_small, LARGE},
+                 {"guest_edit", edit_small, 0},
                  {"guest_edit, large", edit_large, LARGE},
                  {"guest_edit, hidden", edit_hidden, LARGE}};
     size_t i, idle, failed = 0;

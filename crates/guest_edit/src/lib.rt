@@ -3,7 +3,7 @@
 
 ghost use Rattle.std.specs.Prelude.{◌≡◌};
 ghost use Rattle.array.specs.Meaning.{kind_of, number_of};
-ghost use Rattle.table.specs.Calls.{cell_set, previewed};
+ghost use Rattle.table.specs.Calls.{previewed};
 ghost use Rattle.table.specs.Meaning.{table_by, lent_table, outcome_settled};
 ghost use Rattle.rights.specs.Calls.{guest_edit};
 ghost use Rattle.guest_edit.specs.Hidden.{hidden_number};
@@ -17,10 +17,7 @@ use table_preview::preview_cell;
 use table_set::set_cell;
 use valid::masks::are_strict;
 
-// The two ways of an edit are functions of their own: in one frame the order of the cells would lie on the stack for both.
-
 // What refuses the setting of a hidden cell, by a preview of it: what comes before 18, but not that the store is full, which comes behind it.
-#[inline(never)]
 fn refuse_hidden(kind: Kind, cells: usize, table: Table, setting: Setting) -> Refusal
     ensures { number_of result
         ≡ hidden_number (previewed (kind_of kind) cells (lent_table table.entry) setting.entry.cell setting.entry.masks.now setting.entry.value.now) }
@@ -30,24 +27,6 @@ fn refuse_hidden(kind: Kind, cells: usize, table: Table, setting: Setting) -> Re
         Err(Refusal::Full) => Refusal::Hidden,
         Err(e) => e,
     }
-}
-
-// The setting of a cell that is shown.
-#[inline(never)]
-fn set_shown(
-    kind: Kind,
-    cells: usize,
-    masks: &mut [u8],
-    starts: &mut [u64],
-    lengths: &mut [u64],
-    store: &mut [u8],
-    setting: Setting,
-) -> Result<(), Refusal>
-    ensures { outcome_settled result masks.new starts.new lengths.new store.new
-        ≡ cell_set (kind_of kind) cells (table_by masks.old starts.old lengths.old store.old)
-        setting.entry.cell setting.entry.masks.now setting.entry.value.now }
-{
-    set_cell(kind, cells, masks, starts, lengths, store, setting)
 }
 
 // Sets a cell of a working table for a guest with these rights. Refusals 1, 2, 17, 4, 5, 15, 18 and 16, in this order; nothing changes before
@@ -82,5 +61,5 @@ pub fn guest_edit(
         };
         return Err(refuse_hidden(kind, cells, table, setting));
     }
-    set_shown(kind, cells, masks, starts, lengths, store, setting)
+    set_cell(kind, cells, masks, starts, lengths, store, setting)
 }

@@ -56,6 +56,7 @@ fn pack_with(
 }
 
 // The same with room for the order of so many cells: little is cleared for a small table. As `read_in` of `table_read`.
+#[inline(never)]
 fn pack_in<const ROOM: usize>(
     shape: TableShape,
     masks: &[u8],

@@ -78,6 +78,7 @@ fn preview_with(
 }
 
 // The same with room for the order of so many cells: little is cleared for a small table. As `read_in` of `table_read`.
+#[inline(never)]
 fn preview_in<const ROOM: usize>(
     shape: TableShape,
     table: Table,

@@ -79,7 +79,9 @@ fn read_with(
 }
 
 // The same with room for the order of so many cells: little is cleared for a small table. Those of the other calls
-// on tables hand on other parameters; one function that takes the call as a closure would say its promise a second time.
+// on tables hand on other parameters; one function that takes the call as a closure would say its promise a second time. Never inlined: in one frame with
+// the other size, a small table would have all pages of a large one's stack touched.
+#[inline(never)]
 fn read_in<const ROOM: usize>(
     shape: TableShape,
     table: Table,

@@ -93,6 +93,7 @@ fn set_with(
 }
 
 // The same with room for the order of so many cells: little is cleared for a small table. As `read_in` of `table_read`.
+#[inline(never)]
 fn set_in<const ROOM: usize>(
     shape: TableShape,
     masks: &mut [u8],

@@ -50,6 +50,6 @@ returns c =
     let shaped = shape_taken c.in_ok-new.field-0 c.in_ok-new.ensures in
     let some = lt-ltb 0 a.kind.depth (omega (arith, c.if-kind-eq0.false)) in
     let plane = sym c.if-not-are_strict.ensures in
-    c.set_shown.ensures
+    c.set_cell.ensures
     ∙ edit_shown (kind_of a.kind) a.cells a.rights.now table a.setting shaped some plane
     (of_count (kind_of a.kind) a.cells a.rights.now table a.setting shaped some plane c.if-hides.ensures)
