@@ -9,7 +9,7 @@ ghost use Rattle.shown_cells.specs.Shown.{shown_values, ShownWithin, Alike};
 
 use array::kind::ByteOrder;
 use array::mark::mark_of;
-use buffer::copy::{copy_many, fill_bytes};
+use buffer::copy::fill_bytes;
 use decode_marks::if_set;
 use mask_marks::is_set;
 use word::{WordSize, put_word, word_at};
@@ -72,13 +72,13 @@ fn run_end(plane: &[u8], i: usize, shown: bool) -> usize
     plane.len()
 }
 
-// The k bytes at `at` of cells that are all shown, or all not.
+// The k bytes at `at` of cells that are all shown, or all not: of over 16 bytes, so that a call of memmove is worth its cost.
 fn put_run(out: &mut [u8], values: &[u8], at: usize, k: usize, shown: bool)
     requires { (at + k ≤ length out.old) × (at + k ≤ length values.now) }
     ensures { out.new ≡ over_at at (pick shown (take k (drop at values.now)) (replicate k 0)) out.old }
 {
     if shown {
-        copy_many(out, at, values, at, k);
+        out[at..at + k].copy_from_slice(&values[at..at + k]);
     } else {
         fill_bytes(out, at, k, 0);
     }
