@@ -36,7 +36,8 @@
  * GUESTS. A rights plane says which cells a guest may see: one byte a cell, 01 where it shows the cell, 00 where it hides it;
  * there is no other. Each guest has its own; it is part of no array and no table. dpx_guest_read gives a guest what its plane
  * shows of an array; dpx_guest_edit sets a cell of a working table that it shows. Only a mask can hide a cell: both calls
- * refuse a kind of depth 0, with 17.
+ * refuse a kind of depth 0, with 17. Of two planes, byte by byte `and` shows what both show. Where an array is cut or merged,
+ * so is its plane: by dpx_extract and dpx_merge, as the values of an array of the kind dpx_fixed(0, 1, DPX_LITTLE).
  *
  * The host keeps arrays, tables and planes, and makes the calls. A guest is given the answer and `lengths`, and of the outputs
  * of dpx_guest_read so many elements as these say. Nothing else is meant for it:
