@@ -1,11 +1,10 @@
 -- Reading and then cutting is cutting array and plane and then reading (specs/Laws, Cuts).
 -- Assumes nothing.
-use mathlib.Core.Path.{◌≡◌, refl, sym, ap, ap₂, ◌∙◌, subst}
+use mathlib.Core.Path.{◌≡◌, sym, ap, ◌∙◌, subst}
 use Prim.Native.Nat.{ℕ, ◌≤◌, ◌<◌}
-use native.Mathlib.Nat.{le_of_eq}
 use native.Mathlib.Omega.{arith}
 use mathlib.Core.Bool.{Bool, true, false}
-use mathlib.Core.List.{List, [], ◌∷◌, map}
+use mathlib.Core.List.{List, map}
 use lib.ListN.{length, get_or, length-map}
 use Rattle.array.specs.Answer.{Outcome}
 use Rattle.array.specs.Limits.{most_bytes}

@@ -2,24 +2,21 @@
 -- Assumes nothing.
 use mathlib.Core.Path.{◌≡◌, refl}
 use mathlib.Core.List.{List, [], ◌∷◌}
-use Prim.Native.Nat.{ℕ, zero, suc, ◌<◌}
+use Prim.Native.Nat.{ℕ, zero, suc}
 use native.Mathlib.Omega.{arith}
-use lib.ListN.{length}
 use lib.Dec.{lit≤, lit<}
 use Rattle.array.specs.Answer.{gives, refuses}
 use Rattle.array.specs.Limits.{most_cells, most_bytes}
 use Rattle.array.specs.Lists.{All}
 use Rattle.array.specs.Kind.{Kind, byte_kind, ragged, at_start}
-use Rattle.array.specs.Shape.{volume}
 use Rattle.array.specs.Content.{Content, Valid}
 use Rattle.array.proofs.Rules.{kind_ok, shape_ok, array_ok, strict_bytes_ok, numbers_ok}
 use Rattle.rights.specs.Rights.{RightsOk}
 use Rattle.rights.specs.Calls.{guest_read}
-use Rattle.chunks.specs.Chunks.{follow}
 use Rattle.chunks.specs.Calls.{merge_answer, merged}
 use Rattle.chunks.specs.Demand.{Covers}
 use Rattle.rights_laws.specs.Planes.{both}
-use Rattle.rights_laws.specs.Laws.{TwiceLaw, Cuttable, Part, PartOk, subsets_in, numbers_of, laid_out, array_in, read_then_read, read_then_cut, cut_then_read, read_then_merge, merge_then_read}
+use Rattle.rights_laws.specs.Laws.{TwiceLaw, Part, PartOk, subsets_in, numbers_of, laid_out, array_in, read_then_read, read_then_cut, cut_then_read, read_then_merge, merge_then_read}
 use Rattle.rights_laws.proofs.Twice.{twice}
 use Rattle.rights_laws.proofs.Cuts.{cuts}
 use Rattle.rights_laws.proofs.Merges.{merges}

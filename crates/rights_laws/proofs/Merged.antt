@@ -1,18 +1,16 @@
 -- A merge of parts that keep the rules and cover the shape: refused by nothing but 5 and 6, and what it gives is a valid array.
 -- Assumes nothing.
 use mathlib.Core.Path.{◌≡◌, refl, sym, ap, ap₂, ◌∙◌, subst}
-use Prim.Native.Nat.{ℕ, ◌+◌, ◌<◌, ◌≤◌}
-use native.Mathlib.Omega.{arith}
-use mathlib.Core.Bool.{Bool}
+use Prim.Native.Nat.{ℕ, ◌+◌, ◌≤◌}
 use mathlib.Core.List.{List, [], ◌∷◌, ◌++◌, map}
 use lib.ListN.{length, length-append}
 use Rattle.array.specs.Answer.{Answer, gives, and_then, unless}
 use Rattle.array.specs.Limits.{most_bytes}
 use Rattle.array.specs.Lists.{joined, All}
-use Rattle.array.specs.Kind.{Kind, KindOk, Form, null_of}
+use Rattle.array.specs.Kind.{Kind, KindOk, null_of}
 use Rattle.array.specs.Cells.{Cell, leaf}
 use Rattle.array.specs.Shape.{volume, ShapeOk}
-use Rattle.array.specs.Subset.{Subset, lengths, subset_of, subsets_of, SubsetOk, NumbersOk, cells_in, cells_of_all}
+use Rattle.array.specs.Subset.{Subset, subset_of, subsets_of, SubsetOk, cells_in, cells_of_all}
 use Rattle.array.specs.Content.{Content, ArrayOk, leaves, layout, cells_of, array_test, size_test, null_cell}
 use Rattle.array.specs.Buffers.{lengths_of, enough_test, if_room, content_outcome}
 use Rattle.array.proofs.Answers.{pass}

@@ -1,26 +1,26 @@
 -- Reading the parts and then merging them is merging arrays and planes and then reading (specs/Laws, Merges).
 -- Assumes nothing.
 use mathlib.Core.Path.{◌≡◌, refl, sym, ap, ap₂, ◌∙◌, subst}
-use Prim.Native.Nat.{ℕ, suc, ◌+◌, ◌≤◌, ◌<◌}
-use native.Mathlib.Nat.{le_refl}
+use Prim.Native.Nat.{ℕ, ◌+◌, ◌≤◌, ◌<◌}
+use native.Mathlib.Nat.{le_refl, le_trans}
 use native.Mathlib.Omega.{arith}
 use mathlib.Core.Bool.{Bool, true, false}
 use mathlib.Core.List.{List, [], ◌∷◌, ◌++◌, map}
-use lib.ListN.{length, length-map, length-append}
+use lib.ListN.{length, length-append}
 use Rattle.array.specs.Answer.{Answer, gives, refuses, and_then, unless, Outcome}
 use Rattle.array.specs.Limits.{most_bytes}
-use Rattle.array.specs.Lists.{joined, All, from, pick, count}
-use Rattle.array.specs.Kind.{Kind, KindOk, Form, null_of}
-use Rattle.array.specs.Cells.{Value, Cell, Strict, set_test, leaf, rest, inners}
+use Rattle.array.specs.Lists.{joined, All, from, pick}
+use Rattle.array.specs.Kind.{Kind, KindOk, null_of}
+use Rattle.array.specs.Cells.{Value, Cell, Strict, set_test, leaf, rest}
 use Rattle.array.specs.Shape.{volume, ShapeOk}
 use Rattle.array.specs.Subset.{cells_of_all}
 use Rattle.array.specs.Content.{Content, Valid, leaves, layout, pair_up, size_test, null_cell}
 use Rattle.array.specs.declared.answer.Lengths.{Lengths}
 use Rattle.array.specs.Buffers.{lengths_of, Enough, enough_test, if_room, content_outcome, put_into, Taken, taken, whole}
 use Rattle.array.proofs.Answers.{pass}
-use Rattle.array.proofs.Lists.{All-map, All-of, map-append, length_from_lem}
+use Rattle.array.proofs.Lists.{All-map, All-append, map-append, length_from_lem}
 use Rattle.array.proofs.Sums.{sum_of, sum_of_map, sum-le, sum_once}
-use Rattle.array.proofs.Sizes.{OfSize, null_sized, null_least}
+use Rattle.array.proofs.Sizes.{OfSize, null_least}
 use Rattle.array.proofs.Rules.{size_test_lem, size_ok, enough_ok}
 use Rattle.array.proofs.LayoutLaws.{Good, inners-pair_up, bytes_sum, cells_layout}
 use Rattle.array.proofs.Resting.{laid_valid}
@@ -37,7 +37,7 @@ use Rattle.chunks.specs.ReadThenCut.{next_call}
 use Rattle.chunks.proofs.Boxes.{Boxed, once_each}
 use Rattle.merge_stores.proofs.Levels.{put_back-map}
 use Rattle.merge_output.proofs.Lengths.{put_back_all, length-put_back}
-use Rattle.rights_laws.specs.Planes.{plane_kind, plane_array}
+use Rattle.rights_laws.specs.Planes.{plane_kind}
 use Rattle.rights_laws.specs.Laws.{Part, subsets_in, numbers_of, laid_out, array_in, plane_in, read_each, read_then_merge, merge_then_read, PartOk, Merges}
 use Rattle.rights_laws.proofs.Pairs.{pairs-append, pairs-put_back}
 use Rattle.rights_laws.proofs.Seen.{veil, veiled, form_is, form_cells, read_puts, put_taken, next_put}
@@ -176,11 +176,7 @@ module _ {k : Kind} {shape : List ℕ} (kind : KindOk k) (sh : ShapeOk shape) (s
 
   planes_strict : (qs : List Part) → All (PartOk k shape) qs → All Strict (planes qs)
   planes_strict [] s = tt
-  planes_strict (q ∷ qs) s = strict_append q.rights (planes qs) s.0.rights.strict (planes_strict qs s.1)
-    where
-      strict_append : (xs ys : List ℕ) → All Strict xs → All Strict ys → All Strict (xs ++ ys)
-      strict_append [] ys p q = q
-      strict_append (x ∷ xs) ys p q = (p.0, strict_append xs ys p.1 q)
+  planes_strict (q ∷ qs) s = All-append Strict q.rights (planes qs) s.0.rights.strict (planes_strict qs s.1)
 
   plane_ok : RightsOk n whole_plane
   plane_ok = record { counted = length-put_back 0 n js (planes ps); strict = put_back_all Strict 0 (omega arith) n js (planes ps) (planes_strict ps oks) }
@@ -213,10 +209,7 @@ module _ {k : Kind} {shape : List ℕ} (kind : KindOk k) (sh : ShapeOk shape) (s
       subst (λ (m : ℕ). m ≤ n) (sym (even ps oks ∙ parts.as_many kind sh array_in ps (array_fits ps oks)))
       (places_few n js (all_below shape (subsets_in shape ps) (parts.fit_parts shape ps (parts.boxes kind sh array_in ps (array_fits ps oks)))) once) in
       subst (λ (l : List ℕ). length l ≤ most_bytes) (sym (ap (λ (vs : List Value). joined (leaves 0 vs)) (single_planes ps oks) ∙ singles_joined (planes ps)))
-      (le_both (length (planes ps)) n most_bytes many (plane_small n sh.few_cells))
-    where
-      le_both : (a b c : ℕ) → a ≤ b → b ≤ c → a ≤ c
-      le_both a b c p q = omega arith
+      (le_trans many (plane_small n sh.few_cells))
 
   plane_puts : (plane : Content) → merged plane_kind shape (numbers_of ps) (laid_out plane_in ps) plane
       ≡ put_into (parts.merged_form plane_kind_ok sh plane_in ps (plane_parts ps oks) once) plane

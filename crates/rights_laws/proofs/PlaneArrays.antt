@@ -1,7 +1,6 @@
 -- A plane as an array of single bytes: valid, and its cells are the bytes.
 -- Assumes nothing.
 use mathlib.Core.Path.{◌≡◌, refl, sym, ap, ◌∙◌}
-use mathlib.Core.Logic.{inl}
 use Prim.Native.Nat.{ℕ, zero, suc, ◌≤◌}
 use native.Mathlib.Nat.{zero-mul, mul-one}
 use native.Mathlib.Omega.{arith}
@@ -10,10 +9,9 @@ use lib.ListN.{length}
 use lib.Dec.{lit≤}
 use Rattle.array.specs.Limits.{most_bytes, most_cells}
 use Rattle.array.specs.Lists.{joined, pieces}
-use Rattle.array.specs.Kind.{KindOk, fixed, little}
+use Rattle.array.specs.Kind.{KindOk}
 use Rattle.array.specs.Cells.{Value}
-use Rattle.array.specs.Shape.{volume, ShapeOk}
-use Rattle.array.specs.Content.{Content, ArrayOk, Valid, leaves, layout, cells_of}
+use Rattle.array.specs.Content.{ArrayOk, leaves, cells_of}
 use Rattle.rights_laws.specs.Planes.{plane_kind, plane_array}
 
 pub plane_kind_ok : KindOk plane_kind

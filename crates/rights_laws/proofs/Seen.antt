@@ -5,7 +5,7 @@ use Prim.Native.Nat.{ℕ, ◌≤◌, ◌<◌}
 use native.Mathlib.Omega.{arith}
 use mathlib.Core.Bool.{Bool, true, false, ◌&&◌}
 use mathlib.Core.List.{List, [], ◌∷◌, map}
-use lib.ListN.{length, get_or, length-map}
+use lib.ListN.{length, get_or}
 use Rattle.array.specs.Answer.{Answer, gives, and_then, Outcome}
 use Rattle.array.specs.Limits.{most_bytes}
 use Rattle.array.specs.Lists.{from, pick}
@@ -17,13 +17,13 @@ use Rattle.array.specs.declared.answer.Lengths.{Lengths}
 use Rattle.array.specs.Buffers.{lengths_of, Enough, enough_test, if_room, content_outcome, put_into, Taken, taken, whole}
 use Rattle.array.specs.Places.{cell_at}
 use Rattle.array.proofs.Answers.{pass}
-use Rattle.array.proofs.Lists.{map-map, map-from, length_from_lem}
+use Rattle.array.proofs.Lists.{map-map, map-from}
 use Rattle.array.proofs.Numbered.{cells_are}
 use Rattle.array.proofs.Resting.{rest_ok, rest_cell}
 use Rattle.array.proofs.RestLaws.{rest_blank, rest_again}
 use Rattle.array.proofs.Rules.{enough_test_lem}
 use Rattle.array.proofs.Taken.{taken_content}
-use Rattle.rights.specs.Rights.{RightsOk, permits, hidden_by, guest_form}
+use Rattle.rights.specs.Rights.{RightsOk, hidden_by, guest_form}
 use Rattle.rights.specs.Calls.{guest_read}
 use Rattle.rights.proofs.Cleared.{hidden_ok}
 use Rattle.rights.proofs.Seeing.{seen, seen_cell, guest_laid, read_any}

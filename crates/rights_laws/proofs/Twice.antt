@@ -1,6 +1,6 @@
 -- Reading under two planes is reading under what both show (specs/Laws, Twice).
 -- Assumes nothing.
-use mathlib.Core.Path.{◌≡◌, refl, sym, ap, ap₂, ◌∙◌, subst}
+use mathlib.Core.Path.{◌≡◌, refl, sym, ap, ap₂, ◌∙◌}
 use Prim.Native.Nat.{ℕ, suc, ◌<◌}
 use native.Mathlib.Omega.{arith}
 use mathlib.Core.Bool.{Bool, true, false, ◌&&◌}
@@ -9,7 +9,7 @@ use lib.ListN.{length}
 use Rattle.array.specs.Answer.{Outcome}
 use Rattle.array.specs.Lists.{pick, All}
 use Rattle.array.specs.Kind.{Kind}
-use Rattle.array.specs.Cells.{Cell, Strict, set_test}
+use Rattle.array.specs.Cells.{Strict, set_test}
 use Rattle.array.specs.Shape.{volume}
 use Rattle.array.specs.Content.{Content, Valid, layout, cells_of}
 use Rattle.array.specs.declared.answer.Lengths.{Lengths}
