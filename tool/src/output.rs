@@ -193,7 +193,7 @@ impl Turn {
                 Taken::Another => {}
             }
             // Asked again and again, and not waited for in the kernel, so that a signal is heard in between.
-            thread::sleep(Duration::from_millis(10.min(looks)));
+            thread::sleep(Duration::from_millis(2.min(looks)));
             if held.arrived() {
                 return Err(output.stopped());
             }

@@ -57,6 +57,9 @@ fn a_limit_on_file_sizes_keeps_the_old_file() {
 fn a_full_disk_keeps_the_old_file() {
     let folder = prepared("full", 600_000);
     fs::create_dir(folder.join("disk")).unwrap();
+    good(&folder, &["write", "--describe", "guests.txt", "guests.bin"]);
+    let sheet = fs::read_to_string(folder.join("guests.txt")).unwrap();
+    fs::write(folder.join("other.txt"), sheet.replace("0-3,8", "0-3,9")).unwrap();
     // A file system of its own, seen by this shell alone.
     let mounted = |line: &str| {
         let line = format!("mount -t tmpfs -o size=128k tmpfs disk && {{ {line}; }}");
@@ -75,6 +78,14 @@ fn a_full_disk_keeps_the_old_file() {
     assert_eq!(said.text(), "status 74\nstatus 74\nkeep.bin\nkept\n", "{}", said.err);
     assert!(said.err.contains("cannot write disk/keep.bin: No space left on device"), "{}", said.err);
     assert!(said.err.contains("cannot write disk/new.bin: No space left on device"), "{}", said.err);
+    // A pair stays one: with no room for the table, and with none for so much as a description.
+    let said = mounted(&format!(
+        "durpaxeta write --describe guests.txt disk/t.bin; {}; echo status $?; head -c 200k /dev/zero > disk/fill 2> /dev/null; \
+         durpaxeta write --describe other.txt disk/t.bin; echo status $?; ls -A disk; cmp disk/t.bin guests.bin && \
+         cmp disk/t.bin.dpx guests.bin.dpx && durpaxeta show disk/t.bin > shown.txt",
+        cut_long("disk/t.bin --describe"),
+    ));
+    assert_eq!((said.status, said.text()), (0, "status 74\nstatus 74\nfill\nt.bin\nt.bin.dpx\n"), "{}", said.err);
 }
 
 #[test]
@@ -192,12 +203,60 @@ fn a_signal_during_a_write_leaves_nothing() {
                 if out == "keep.bin" {
                     fs::write(folder.join(out), b"kept as it was").unwrap();
                 }
-                // What was killed outright leaves its temporary file.
+                // What was killed outright leaves its temporary file and its lock.
                 sh(&folder, "rm -f .durpaxeta-*");
             };
             assert_eq!(status.signal(), Some(number), "{name}, {out}: {status}");
             assert!(contents(&folder) == before, "{name}, {out}: something was left");
         }
+    }
+}
+
+/// Who writes a file that another command writes waits, says so, and can be stopped.
+#[test]
+fn a_second_writer_waits() {
+    let folder = prepared("turns", 8_000_000);
+    let cut = ["cut", "--kind", LONG, "--shape", "1", "--subset", "0..1", "--describe", "long.bin", "keep.bin"];
+    let first = (0..100).find_map(|_| stopped_while_writing(&folder, start(&folder, &cut)));
+    let mut first = first.expect("it never was slow enough");
+    let write = |out: &str| start(&folder, &["write", "--describe", "guests.txt", out]);
+    let (mut stopped, mut second) = (write("keep.bin"), write("keep.bin"));
+    // Another file has another turn.
+    assert!(write("other.bin").wait().unwrap().success());
+    thread::sleep(Duration::from_millis(1300));
+    send(&stopped, 15);
+    assert_eq!(stopped.wait().unwrap().signal(), Some(15));
+    assert!(first.try_wait().unwrap().is_none() && second.try_wait().unwrap().is_none());
+    assert_eq!(fs::read(folder.join("keep.bin")).unwrap(), b"kept as it was");
+    send(&first, SIGCONT);
+    assert!(first.wait().unwrap().success() && second.wait().unwrap().success());
+    for waited in [stopped, second] {
+        let mut told = String::new();
+        waited.stderr.unwrap().read_to_string(&mut told).unwrap();
+        let begin = "durpaxeta: writing keep.bin, behind another command that writes it: ";
+        assert!(told.starts_with(begin) && told.ends_with(" looks so far\n"), "{told}");
+    }
+    good(&folder, &["check", "keep.bin"]);
+    assert_eq!(fs::read(folder.join("keep.bin")).unwrap(), fs::read(folder.join("guests.bin")).unwrap());
+    assert!(!temporary(&folder));
+}
+
+/// What a command that was killed left is removed by the next one that writes the file, and by no other.
+#[test]
+fn what_was_left_is_removed() {
+    let folder = prepared("left-over", 8_000_000);
+    for describe in [&["--describe"][..], &[]] {
+        let cut =
+            [&["cut", "--kind", LONG, "--shape", "1", "--subset", "0..1"], describe, &["long.bin", "out.bin"]].concat();
+        let mut child = (0..100).find_map(|_| stopped_while_writing(&folder, start(&folder, &cut))).expect("too quick");
+        child.kill().unwrap();
+        child.wait().unwrap();
+        assert!(temporary(&folder));
+        good(&folder, &["write", "guests.txt", "other.bin"]);
+        assert!(temporary(&folder));
+        good(&folder, &[&["write"], describe, &["guests.txt", "out.bin"]].concat());
+        assert!(!temporary(&folder));
+        sh(&folder, "rm -f out.bin out.bin.dpx");
     }
 }
 
