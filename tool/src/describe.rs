@@ -4,9 +4,9 @@
 //! durpaxeta description 1
 //! kind: depth 2, ragged, width 4, index at start
 //! shape: 1x2
-//! part: 0..1,0..2 of 2x2
-//! bytes: 46
-//! crc-32c: 51A91B2F
+//! part: 1..2,0..2 of 2x2
+//! bytes: 35
+//! crc-32c: 88F1986D
 //! ```
 //!
 //! The title comes first, then each of the lines once, in any order; the line for part where the table is one. Empty lines and

@@ -284,13 +284,15 @@ impl LockFile {
     /// Who has the lock removes the file before it is free. So a lock on a file that is not in its place is none, and who
     /// has one on the file in its place has it alone.
     fn take(path: &Path) -> io::Result<Taken> {
-        let file = match OpenOptions::new().write(true).create_new(true).open(path) {
+        let mut options = OpenOptions::new();
+        options.read(true).write(true);
+        let file = match options.clone().create_new(true).open(path) {
             Ok(file) => {
                 // Whoever may write in this folder may take turns.
                 let _ = file.set_permissions(Permissions::from_mode(0o666));
                 file
             }
-            Err(error) if error.kind() == ErrorKind::AlreadyExists => match OpenOptions::new().write(true).open(path) {
+            Err(error) if error.kind() == ErrorKind::AlreadyExists => match options.open(path) {
                 Err(error) if error.kind() == ErrorKind::NotFound => return Ok(Taken::Another),
                 opened => opened?,
             },

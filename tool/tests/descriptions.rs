@@ -26,13 +26,23 @@ fn status(folder: &Path, arguments: &[&str]) -> (i32, String) {
 fn the_page_is_right() {
     let folder = described("page");
     let page = include_str!("../../docs/FORMAT.md");
-    let (_, rest) = page.split_once("```description\n").expect("the page has a description");
-    let (wanted, _) = rest.split_once("```").unwrap();
-    assert_eq!(fs::read_to_string(folder.join("guests.bin.dpx")).unwrap(), wanted);
+    let shown = |what: &str| {
+        let (_, rest) = page.split_once(&format!("```{what}\n")).unwrap_or_else(|| panic!("no {what} on the page"));
+        rest.split_once("```").unwrap().0
+    };
+    assert_eq!(fs::read_to_string(folder.join("guests.bin.dpx")).unwrap(), shown("description"));
+    for (subset, out) in [("0..1,0..2", "host0.bin"), ("1..2,0..2", "host1.bin")] {
+        good(&folder, &["cut", "--subset", subset, "--describe", "guests.bin", out]);
+    }
+    assert_eq!(fs::read_to_string(folder.join("host1.bin.dpx")).unwrap(), shown("part"));
+    let swapped = "merge --shape 2x2 --part 0..1,0..2 host1.bin --part 1..2,0..2 host0.bin all.bin";
+    let (status, err) = self::status(&folder, &swapped.split(' ').collect::<Vec<_>>());
+    assert_eq!(status, 67);
+    assert!(page.contains(&format!("    $ durpaxeta {swapped}\n    {err}")), "{err}");
     let mut bytes = fs::read(folder.join("guests.bin")).unwrap();
     bytes[59] ^= 1;
     fs::write(folder.join("guests.bin"), bytes).unwrap();
-    let (status, err) = status(&folder, &["show", "guests.bin"]);
+    let (status, err) = self::status(&folder, &["show", "guests.bin"]);
     assert_eq!(status, 69);
     assert!(page.contains(&format!("    $ durpaxeta show guests.bin\n    {err}")), "{err}");
     // Without the description nobody notices.

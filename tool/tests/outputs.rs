@@ -4,7 +4,7 @@ mod common;
 
 use common::*;
 use std::fs::{self, Permissions};
-use std::io::{Read, Write};
+use std::io::{BufRead, BufReader, Read, Write};
 use std::os::unix::fs::{symlink, MetadataExt, PermissionsExt};
 use std::os::unix::process::{CommandExt, ExitStatusExt};
 use std::path::Path;
@@ -144,15 +144,25 @@ fn send(child: &Child, number: i32) {
     assert_eq!(unsafe { kill(child.id() as i32, number) }, 0);
 }
 
+/// Whether a command left anything but its output, or still has it.
 fn temporary(folder: &Path) -> bool {
-    let mut names = fs::read_dir(folder).unwrap().map(|entry| entry.unwrap().file_name());
-    names.any(|name| name.to_string_lossy().starts_with(".durpaxeta-"))
+    hidden(folder).next().is_some()
+}
+
+/// Whether a command has its turn and writes: before that there is its lock alone.
+fn writing(folder: &Path) -> bool {
+    hidden(folder).any(|name| !name.ends_with("-lock"))
+}
+
+fn hidden(folder: &Path) -> impl Iterator<Item = String> {
+    let names = fs::read_dir(folder).unwrap().map(|entry| entry.unwrap().file_name().into_string().unwrap());
+    names.filter(|name| name.starts_with(".durpaxeta-"))
 }
 
 /// Stops a child in the middle of its writing: its temporary file is there, and stays there. None if it was too quick.
 fn stopped_while_writing(folder: &Path, mut child: Child) -> Option<Child> {
     let deadline = Instant::now() + Duration::from_secs(30);
-    while !temporary(folder) {
+    while !writing(folder) {
         assert!(Instant::now() < deadline, "nothing is written");
         if child.try_wait().unwrap().is_some() {
             return None;
@@ -164,7 +174,7 @@ fn stopped_while_writing(folder: &Path, mut child: Child) -> Option<Child> {
         // Behind the name in brackets: T is stopped, Z is over.
         let line = fs::read_to_string(&state).unwrap();
         match line.rsplit(") ").next().unwrap().chars().next() {
-            Some('T') if temporary(folder) => return Some(child),
+            Some('T') if writing(folder) => return Some(child),
             Some('T' | 'Z') => break,
             _ => assert!(Instant::now() < deadline, "it does not stop"),
         }
@@ -212,30 +222,39 @@ fn a_signal_during_a_write_leaves_nothing() {
     }
 }
 
+/// A cut of the long table that was stopped while it writes.
+fn stopped_cut(folder: &Path, more: &[&str]) -> Child {
+    let cut = [&["cut", "--kind", LONG, "--shape", "1", "--subset", "0..1"], more].concat();
+    let one = |_| {
+        sh(folder, "rm -f .durpaxeta-*");
+        stopped_while_writing(folder, start(folder, &cut))
+    };
+    (0..100).find_map(one).expect("it never was slow enough")
+}
+
 /// Who writes a file that another command writes waits, says so, and can be stopped.
 #[test]
 fn a_second_writer_waits() {
     let folder = prepared("turns", 8_000_000);
-    let cut = ["cut", "--kind", LONG, "--shape", "1", "--subset", "0..1", "--describe", "long.bin", "keep.bin"];
-    let first = (0..100).find_map(|_| stopped_while_writing(&folder, start(&folder, &cut)));
-    let mut first = first.expect("it never was slow enough");
+    let mut first = stopped_cut(&folder, &["--describe", "long.bin", "keep.bin"]);
+    let before = fs::read(folder.join("keep.bin")).unwrap();
     let write = |out: &str| start(&folder, &["write", "--describe", "guests.txt", out]);
-    let (mut stopped, mut second) = (write("keep.bin"), write("keep.bin"));
+    let mut waiting = [write("keep.bin"), write("keep.bin")];
     // Another file has another turn.
     assert!(write("other.bin").wait().unwrap().success());
-    thread::sleep(Duration::from_millis(1300));
+    for child in &mut waiting {
+        let told = BufReader::new(child.stderr.take().unwrap()).lines().map(|line| line.unwrap());
+        let begin = "durpaxeta: writing keep.bin, behind another command that writes it: ";
+        let line = told.into_iter().find(|line| line.starts_with(begin)).expect("it waits and tells nothing");
+        assert!(line.ends_with(" looks so far"), "{line}");
+    }
+    let [mut stopped, mut second] = waiting;
     send(&stopped, 15);
     assert_eq!(stopped.wait().unwrap().signal(), Some(15));
     assert!(first.try_wait().unwrap().is_none() && second.try_wait().unwrap().is_none());
-    assert_eq!(fs::read(folder.join("keep.bin")).unwrap(), b"kept as it was");
+    assert!(fs::read(folder.join("keep.bin")).unwrap() == before);
     send(&first, SIGCONT);
     assert!(first.wait().unwrap().success() && second.wait().unwrap().success());
-    for waited in [stopped, second] {
-        let mut told = String::new();
-        waited.stderr.unwrap().read_to_string(&mut told).unwrap();
-        let begin = "durpaxeta: writing keep.bin, behind another command that writes it: ";
-        assert!(told.starts_with(begin) && told.ends_with(" looks so far\n"), "{told}");
-    }
     good(&folder, &["check", "keep.bin"]);
     assert_eq!(fs::read(folder.join("keep.bin")).unwrap(), fs::read(folder.join("guests.bin")).unwrap());
     assert!(!temporary(&folder));
@@ -246,9 +265,7 @@ fn a_second_writer_waits() {
 fn what_was_left_is_removed() {
     let folder = prepared("left-over", 8_000_000);
     for describe in [&["--describe"][..], &[]] {
-        let cut =
-            [&["cut", "--kind", LONG, "--shape", "1", "--subset", "0..1"], describe, &["long.bin", "out.bin"]].concat();
-        let mut child = (0..100).find_map(|_| stopped_while_writing(&folder, start(&folder, &cut))).expect("too quick");
+        let mut child = stopped_cut(&folder, &[describe, &["long.bin", "out.bin"]].concat());
         child.kill().unwrap();
         child.wait().unwrap();
         assert!(temporary(&folder));

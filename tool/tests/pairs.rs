@@ -211,6 +211,37 @@ fn tables_that_collide() {
     assert_eq!(good(&folder, &["show", "t.bin"]).out, written[1]);
 }
 
+/// A reader that is slow: between the description and the table that it opens, both are replaced.
+#[test]
+fn a_slow_reader() {
+    let (folder, shown) = sheets("pairs-slow");
+    let copy = |from: &str, to: &str| {
+        fs::copy(folder.join(from), folder.join("copy")).unwrap();
+        fs::rename(folder.join("copy"), folder.join(to)).unwrap();
+    };
+    let given = ["--kind", "depth 0, ragged, width 4, index at start", "--shape", "2"];
+    for (described, line) in [(true, &["show", "t.bin"][..]), (false, &[&["show"], &given[..], &["t.bin"]].concat())] {
+        // Whoever opens a pipe waits for the other end.
+        assert_eq!(sh(&folder, "rm -f t.bin t.bin.dpx && mkfifo t.bin").status, 0);
+        if described {
+            copy("0.bin.dpx", "t.bin.dpx");
+        }
+        let reader = piped(&folder, line);
+        thread::sleep(Duration::from_millis(500));
+        fs::rename(folder.join("t.bin"), folder.join("pipe")).unwrap();
+        copy("1.bin.dpx", "t.bin.dpx");
+        copy("1.bin", "t.bin");
+        drop(fs::OpenOptions::new().read(true).write(true).open(folder.join("pipe")).unwrap());
+        let said = reader.wait_with_output().unwrap();
+        assert_eq!(
+            (said.status.code(), &said.stdout),
+            (Some(0), &shown[1]),
+            "{}",
+            String::from_utf8_lossy(&said.stderr)
+        );
+    }
+}
+
 /// What a killed command leaves, made by hand: a description of two tables beside either of them.
 #[test]
 fn descriptions_of_two_tables() {
