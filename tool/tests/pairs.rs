@@ -9,12 +9,13 @@ use std::process::{Command, Stdio};
 use std::thread;
 use std::time::{Duration, Instant};
 
-/// How long the tests with many writers run, all of them at the same time. DURPAXETA_PAIRS_SECONDS says another time.
+/// How long the two tests with many writers run, beside each other. DURPAXETA_PAIRS_SECONDS says another time.
 const SECONDS: u64 = 20;
 
-fn end() -> Instant {
+/// The end of a test that runs a share of that time.
+fn end(share: u32) -> Instant {
     let told = std::env::var("DURPAXETA_PAIRS_SECONDS").ok().map(|text| text.parse().expect("a number of seconds"));
-    Instant::now() + Duration::from_secs(told.unwrap_or(SECONDS))
+    Instant::now() + Duration::from_secs(told.unwrap_or(SECONDS)) / share
 }
 
 /// The worksheets that are written: other values, other shapes, other kinds, and the same bytes as tables of three kinds.
@@ -75,7 +76,7 @@ fn writes(folder: &Path, table: &str, first: usize, end: Instant) -> usize {
 #[test]
 fn readers_beside_writers() {
     let (folder, shown) = sheets("pairs-beside");
-    let end = end();
+    let end = end(1);
     let (read, written) = thread::scope(|scope| {
         let (folder, shown) = (&folder, &shown);
         let readers: Vec<_> = (0..2).map(|_| scope.spawn(move || reads(folder, "0.bin", shown, end))).collect();
@@ -95,7 +96,7 @@ fn readers_beside_writers() {
 #[test]
 fn killed_writers() {
     let (folder, shown) = sheets("pairs-killed");
-    let end = end();
+    let end = end(1);
     let began = Instant::now();
     good(&folder, &["write", "--describe", "0.txt", "k.bin"]);
     let longest = 3 * began.elapsed().as_micros() as usize;
@@ -136,7 +137,7 @@ fn killed_writers() {
 #[test]
 fn first_writes() {
     let (folder, shown) = sheets("pairs-first");
-    let end = end();
+    let end = end(4);
     let mut rounds = 0;
     while Instant::now() < end {
         let name = format!("new{rounds}.bin");
@@ -157,7 +158,7 @@ fn first_writes() {
 #[test]
 fn described_for_the_first_time() {
     let (folder, shown) = sheets("pairs-undescribed");
-    let end = end();
+    let end = end(4);
     let show = ["show", "--kind", "depth 0, ragged, width 4, index at start", "--shape", "2", "t.bin"];
     let mut rounds = 0;
     while Instant::now() < end {
@@ -190,7 +191,7 @@ fn tables_that_collide() {
     });
     assert_eq!(first.0, second.0);
     let written = [first.1, second.1];
-    let end = end();
+    let end = end(4);
     thread::scope(|scope| {
         let (folder, written) = (&folder, &written);
         scope.spawn(move || {
