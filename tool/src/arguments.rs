@@ -48,7 +48,8 @@ impl Arguments {
     }
 }
 
-/// Reads the words behind a command. `options` are those that it takes, `files` the names of its files.
+/// Reads the words behind a command. `options` are those that it takes, `files` the names of its files; of one that ends with
+/// ... there may be any number.
 pub fn parse(command: &str, options: &[&str], files: &[&str], words: Vec<OsString>) -> Result<Arguments, Failure> {
     let mut arguments = Arguments::default();
     let mut words = words.into_iter();
@@ -106,9 +107,10 @@ pub fn parse(command: &str, options: &[&str], files: &[&str], words: Vec<OsStrin
             _ => once(&mut arguments.subset, option, value)?,
         }
     }
-    if arguments.files.len() != files.len() {
+    let more = files.first().is_some_and(|name| name.ends_with("..."));
+    let (least, given) = (files.len() - usize::from(more), arguments.files.len());
+    if given < least || (given > least && !more) {
         let wanted = if files.is_empty() { "no file".to_string() } else { files.join(" ") };
-        let given = arguments.files.len();
         return Err(Failure::usage(format!(
             "{command} takes {wanted}, and {given} {} given",
             if given == 1 { "name was" } else { "names were" }

@@ -1,12 +1,15 @@
 //! The commands.
 
 use crate::arguments::{self, Arguments};
-use crate::describe::{self, Described, Description};
+use crate::describe::{self, Described, Description, Part};
 use crate::failure::{refusal_text, Failure, DIFFERENT};
 use crate::files::{self, Input};
 use crate::locate::Walk;
-use crate::output::{self, Output};
-use crate::stored::{cells, given_kind, given_shape, missing_kind, missing_shape, stopped, Given, Interleaved, Stored};
+use crate::output;
+use crate::pair::{Pair, Target};
+use crate::stored::{
+    cells, given_kind, given_shape, missing_kind, missing_shape, stopped, undescribed, Given, Interleaved, Stored,
+};
 use crate::watch::Watch;
 use crate::{explain, guests, help, json, tables, words, worksheet};
 use durpaxeta::{
@@ -14,7 +17,6 @@ use durpaxeta::{
     Kind, Refusal, Subset, Values,
 };
 use std::ffi::{OsStr, OsString};
-use std::fs;
 
 struct Command {
     name: &'static str,
@@ -50,7 +52,7 @@ const COMMANDS: [Command; 18] = [
         name: "merge",
         help: help::MERGE,
         options: &["--kind", "--shape", "--part", "--describe", "--no-clobber"],
-        files: &["OUT"],
+        files: &["FILE...", "OUT"],
         run: merge_parts,
     },
     Command {
@@ -221,62 +223,27 @@ fn verdict(status: u8, text: &str, watch: &Watch) -> Result<u8, Failure> {
     }
 }
 
-/// Reads a subset and tests it against its shape; answers how many cells it holds, too.
-fn subset_of(text: &str, shape: &[u64], option: &str) -> Result<(Subset, usize), Failure> {
-    let subset = words::subset(text)?;
-    match subset_cells(shape, &subset) {
-        Ok(cells) => Ok((subset, cells.len())),
-        Err(refusal) => {
-            let detail = format!("The subset is {}; the shape is {}", text.trim(), words::shape_text(shape));
-            Err(Failure::refused(refusal, option, detail))
-        }
-    }
-}
-
-/// Refuses to leave a wrong description beside what is written.
-fn not_described(table: &Output, beside: &OsStr, advice: &str) -> Result<(), Failure> {
-    match table.is_file() && fs::symlink_metadata(beside).is_ok() {
-        true => {
-            let beside = beside.to_string_lossy();
-            Err(Failure::usage(format!("{beside} is there and would no longer be right: {advice}")))
-        }
-        false => Ok(()),
-    }
-}
-
-/// Stores an array in a file, and describes it where that is asked for.
+/// Stores an array in a file, and describes it where that is asked for, with the part that it is.
 pub fn store(
     array: &Array,
+    part: Option<&Part>,
     subject: &str,
     path: &OsStr,
     inputs: &[&Input],
     arguments: &Arguments,
     watch: &Watch,
 ) -> Result<(), Failure> {
-    let table = Output::new(path, arguments.no_clobber, inputs)?;
-    let beside = describe::beside(path);
-    if arguments.describe && !table.is_file() {
-        return Err(Failure::usage("--describe writes OUT.dpx beside OUT, so OUT must be a file"));
-    }
-    let description = match arguments.describe {
-        true => Some(Output::new(&beside, arguments.no_clobber, inputs)?),
+    let target = match arguments.describe {
+        true => Target::described(path, arguments.no_clobber, inputs)?,
         false => {
-            not_described(&table, &beside, "give --describe to write it anew, or remove it")?;
-            None
+            let advice = "give --describe to write it anew, or remove it";
+            Target::plain(path, advice, arguments.no_clobber, inputs)?
         }
     };
-    if let Some(description) = &description {
-        if !description.is_file() || (table.identity().is_some() && table.identity() == description.identity()) {
-            let beside = beside.to_string_lossy();
-            return Err(Failure::usage(format!("{beside} is no file of its own, so it cannot be the description")));
-        }
-    }
     let stored =
         encode(array).map_err(|refusal| Failure::Refused { refusal, subject: subject.to_string(), detail: None })?;
-    let text = Description::of(array.kind, &array.shape, &stored).text();
-    let mut outputs = vec![(table, &stored[..])];
-    outputs.extend(description.map(|description| (description, text.as_bytes())));
-    output::write(&outputs, watch)
+    let says = arguments.describe.then(|| Description::of(array.kind, &array.shape, part.cloned(), &stored));
+    target.write(&stored, says.as_ref(), watch)
 }
 
 // ---------------------------------------------------------------------------------------------------- the commands
@@ -304,7 +271,7 @@ pub fn print_table(
 fn write(arguments: &Arguments, watch: &Watch) -> Result<u8, Failure> {
     let sheet = files::read(&arguments.files[0], watch)?;
     let array = worksheet::read(&sheet.name, &sheet.bytes)?;
-    store(&array, &sheet.name, &arguments.files[1], &[&sheet], arguments, watch)?;
+    store(&array, None, &sheet.name, &arguments.files[1], &[&sheet], arguments, watch)?;
     Ok(0)
 }
 
@@ -314,7 +281,7 @@ fn cut(arguments: &Arguments, watch: &Watch) -> Result<u8, Failure> {
         .as_ref()
         .ok_or_else(|| Failure::usage("--subset is missing; for example --subset 0..2,1..3"))?;
     let stored = Stored::named(arguments, false, watch)?;
-    let (subset, count) = subset_of(text, &stored.shape, "--subset")?;
+    let (subset, count) = words::subset_of(text, &stored.shape, "--subset")?;
     if count == 0 {
         let detail = format!("The subset {text} holds no cell, and there is no table of no cells");
         return Err(Failure::refused(Refusal::Shape, "--subset", detail));
@@ -331,63 +298,128 @@ fn cut(arguments: &Arguments, watch: &Watch) -> Result<u8, Failure> {
             detail: None,
         })?,
     };
-    store(&cut, name, &arguments.files[1], &stored.inputs().collect::<Vec<_>>(), arguments, watch)?;
+    let part = Part::of(&subset, &stored.shape, stored.part());
+    let inputs: Vec<&Input> = stored.inputs().collect();
+    store(&cut, part.as_ref(), name, &arguments.files[1], &inputs, arguments, watch)?;
     Ok(0)
 }
 
+/// A part of a merge that was read.
+struct Merged {
+    subset: Subset,
+    stored: Stored,
+    array: Array,
+}
+
 fn merge_parts(arguments: &Arguments, watch: &Watch) -> Result<u8, Failure> {
-    let kind = given_kind(arguments)?;
-    // A part knows its own shape at most, so the shape of the whole is always given.
-    let shape = given_shape(arguments)?.ok_or_else(|| missing_shape(", the shape of the whole"))?;
-    if arguments.parts.is_empty() {
-        return Err(Failure::usage("--part is missing; for example --part 0..1,0..3 first.bin"));
+    let (kind, shape) = (given_kind(arguments)?, given_shape(arguments)?);
+    let (named, out) = arguments.files.split_at(arguments.files.len() - 1);
+    let told = arguments.parts.iter().map(|(text, path)| (Some(text.as_str()), path));
+    let files: Vec<(Option<&str>, &OsString)> = told.chain(named.iter().map(|path| (None, path))).collect();
+    if files.is_empty() {
+        return Err(Failure::usage("no part is given; for example --part 0..1,0..3 first.bin"));
     }
-    if arguments.parts.iter().filter(|(_, file)| file == "-").count() > 1 {
+    if files.iter().filter(|(_, path)| *path == "-").count() > 1 {
         return Err(Failure::usage("only one part can come from standard input"));
     }
-    let mut subsets = Vec::new();
     for (text, _) in &arguments.parts {
-        let (subset, count) = subset_of(text, &shape, "--part")?;
-        if count == 0 {
-            return Err(Failure::refused(Refusal::Subset, "--part", format!("The subset {text} holds no cell")));
-        }
-        subsets.push(subset);
+        words::subset(text)?;
+        shape.as_ref().map(|shape| subset_with_cells(text, shape)).transpose()?;
     }
-    let mut parts: Vec<(Stored, Array)> = Vec::new();
-    for (subset, (text, file)) in subsets.iter().zip(&arguments.parts) {
-        let given = Given { kind, shape: Some(subset.lengths()), shape_by: &format!("--part {text}") };
-        let stored = Stored::read(file, given, false, watch)?;
-        if let Some((first, _)) = parts.first().filter(|(first, _)| first.kind != stored.kind) {
+    for (told, path) in &files {
+        if !describe::is_beside(path) {
+            told.ok_or_else(|| no_part(path, None))?;
+            kind.ok_or_else(|| missing_kind(&undescribed(&[path])))?;
+        }
+    }
+    let pairs = files.iter().map(|(_, path)| Pair::read(path, watch)).collect::<Result<Vec<Pair>, Failure>>()?;
+    let (shape, shape_by) = match shape {
+        Some(shape) => (shape, "--shape".to_string()),
+        None => {
+            let whole = |described: &Described| Some((described.part()?.whole.clone(), described.name().to_string()));
+            let found = pairs.iter().filter_map(|pair| pair.described.as_ref()).find_map(whole);
+            found.ok_or_else(|| missing_shape(", the shape of the whole, and no description of a part says it"))?
+        }
+    };
+    let mut parts: Vec<Merged> = Vec::new();
+    for ((told, path), pair) in files.into_iter().zip(pairs) {
+        let subset = placed(told, path, &pair, &shape, &shape_by)?;
+        let shape_by = told.map_or(shape_by.clone(), |text| format!("--part {text}"));
+        let given = Given { kind, shape: Some(subset.lengths()), shape_by: &shape_by };
+        let stored = Stored::of(path, pair, given, false)?;
+        if let Some(first) = parts.first().map(|part| &part.stored).filter(|first| first.kind != stored.kind) {
             let said = |part: &Stored| format!("\"{}\"", part.kind);
             return Err(describe::differ(&first.input.name, &said(first), &stored.input.name, &said(&stored)));
         }
         let array = stored.decode()?;
-        parts.push((stored, array));
+        parts.push(Merged { subset, stored, array });
     }
-    let kind = parts[0].0.kind;
+    let kind = parts[0].stored.kind;
     watch.step("merging", Some(parts.len() as u64), "parts");
-    let chunks: Vec<Chunk<'_>> =
-        subsets.iter().zip(&parts).map(|(subset, (_, array))| Chunk::new(subset, array)).collect();
+    let chunks: Vec<Chunk<'_>> = parts.iter().map(|part| Chunk::new(&part.subset, &part.array)).collect();
     let whole = merge(kind, &shape, &chunks).map_err(|refusal| Failure::Refused {
         refusal,
         subject: "merge".into(),
-        detail: if refusal == Refusal::Cover { uncovered(&shape, &subsets) } else { None },
+        detail: if refusal == Refusal::Cover { uncovered(&shape, &parts) } else { None },
     })?;
-    let inputs: Vec<&Input> = parts.iter().flat_map(|(stored, _)| stored.inputs()).collect();
-    store(&whole, "merge", &arguments.files[0], &inputs, arguments, watch)?;
+    let inputs: Vec<&Input> = parts.iter().flat_map(|part| part.stored.inputs()).collect();
+    store(&whole, None, "merge", &out[0], &inputs, arguments, watch)?;
     Ok(0)
 }
 
-/// The first cell that no subset holds, or that two hold.
-fn uncovered(shape: &[u64], subsets: &[Subset]) -> Option<String> {
+/// Reads the subset of a part.
+fn subset_with_cells(text: &str, shape: &[u64]) -> Result<Subset, Failure> {
+    match words::subset_of(text, shape, "--part")? {
+        (_, 0) => Err(Failure::refused(Refusal::Subset, "--part", format!("The subset {text} holds no cell"))),
+        (subset, _) => Ok(subset),
+    }
+}
+
+/// Where a part lies in the whole, as --part says or its description. Where both do they must agree, and the whole must have
+/// the shape that was described.
+fn placed(told: Option<&str>, path: &OsStr, pair: &Pair, shape: &[u64], shape_by: &str) -> Result<Subset, Failure> {
+    let subset = told.map(|text| subset_with_cells(text, shape)).transpose()?;
+    let (described, name) = (pair.described.as_ref(), pair.described.as_ref().map(Described::name));
+    let Some((part, name)) = described.and_then(Described::part).zip(name) else {
+        return subset.ok_or_else(|| no_part(path, name));
+    };
+    if part.whole != shape {
+        return Err(describe::differ(shape_by, &words::shape_text(shape), name, &part.to_string()));
+    }
+    match told.zip(subset) {
+        Some((text, subset)) if subset != part.subset => {
+            let says = Part { subset, whole: shape.to_vec() }.to_string();
+            Err(describe::differ(&format!("--part {text}"), &says, name, &part.to_string()))
+        }
+        _ => Ok(part.subset.clone()),
+    }
+}
+
+/// A part that is named alone, of which nothing says where it lies.
+fn no_part(path: &OsStr, description: Option<&str>) -> Failure {
+    let name = files::name(path, "standard input");
+    let why = description.map_or(undescribed(&[path]), |own| format!(" and {own} says no part"));
+    Failure::usage(format!(
+        "--part is missing for {name}{why}; for example --part 0..1,0..3 {}",
+        path.to_string_lossy()
+    ))
+}
+
+/// The first cell that no part holds, or that two hold.
+fn uncovered(shape: &[u64], parts: &[Merged]) -> Option<String> {
     let mut holders: Vec<Option<usize>> = vec![None; cells(shape)];
-    for (number, subset) in subsets.iter().enumerate() {
-        for cell in subset_cells(shape, subset).ok()? {
+    for (number, part) in parts.iter().enumerate() {
+        for cell in subset_cells(shape, &part.subset).ok()? {
             let cell = cell as usize;
             if let Some(first) = holders[cell].replace(number) {
                 let name = words::coordinates(shape, cell);
-                let (one, two) = (words::subset_text(&subsets[first]), words::subset_text(subset));
-                return Some(format!("Cell {name} is held twice, by {one} and by {two}"));
+                let (one, two) = (&parts[first], part);
+                let (subsets, files) = ([&one.subset, &two.subset], [&one.stored.input.name, &two.stored.input.name]);
+                let [one, two] = subsets.map(words::subset_text);
+                return Some(format!(
+                    "Cell {name} is held twice, by {one} and by {two}, in {} and in {}",
+                    files[0], files[1]
+                ));
             }
         }
     }
@@ -410,7 +442,7 @@ fn convert(arguments: &Arguments, watch: &Watch) -> Result<u8, Failure> {
         Failure::refused(refusal, &old.input.name, stopped(refusal, &walk, old.input.bytes.len()))
     })?;
     let array = Array { kind, shape: old.shape, masks: Vec::new(), values: values.values, offsets: values.offsets };
-    store(&array, &old.input.name, &arguments.files[1], &[&old.input], arguments, watch)?;
+    store(&array, None, &old.input.name, &arguments.files[1], &[&old.input], arguments, watch)?;
     if let Some(tail) = after_last_cell(&old.input, &walk) {
         output::tell(&format!("{}: {tail}: left out", old.input.name));
     }
@@ -440,15 +472,14 @@ fn convert_back(arguments: &Arguments, watch: &Watch) -> Result<u8, Failure> {
         let what = format!("{name}: the older form has no masks and takes ragged values of depth 0, not \"{kind}\"");
         return Err(Failure::usage(what));
     }
-    let path = &arguments.files[1];
-    let out = Output::new(path, arguments.no_clobber, &stored.inputs().collect::<Vec<_>>())?;
-    not_described(&out, &describe::beside(path), "remove it")?;
+    let inputs: Vec<&Input> = stored.inputs().collect();
+    let target = Target::plain(&arguments.files[1], "remove it", arguments.no_clobber, &inputs)?;
     let old = encode_interleaved(&stored.decode()?).map_err(|refusal| Failure::Refused {
         refusal,
         subject: name.clone(),
         detail: None,
     })?;
-    output::write(&[(out, &old[..])], watch)?;
+    target.write(&old, None, watch)?;
     Ok(0)
 }
 
@@ -461,7 +492,7 @@ fn make_load(arguments: &Arguments, watch: &Watch) -> Result<u8, Failure> {
         subject: "generate".into(),
         detail: None,
     })?;
-    store(&load, "generate", &arguments.files[0], &[], arguments, watch)?;
+    store(&load, None, "generate", &arguments.files[0], &[], arguments, watch)?;
     Ok(0)
 }
 
@@ -529,7 +560,7 @@ fn same(arguments: &Arguments, watch: &Watch) -> Result<u8, Failure> {
     if arguments.files.iter().all(|file| file == "-") {
         return Err(Failure::usage("only one of A and B can come from standard input"));
     }
-    let tables = Stored::pair(arguments, watch)?;
+    let tables = Stored::two(arguments, watch)?;
     for table in &tables {
         if let Err(refusal) = decode(table.kind, &table.shape, &table.input.bytes) {
             return not_valid(&table.input, refusal, &table.walk(), watch);

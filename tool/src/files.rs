@@ -72,21 +72,41 @@ pub fn folder(path: &Path) -> &Path {
     }
 }
 
-/// Reads all of a file; `-` is standard input.
-pub fn read(path: &OsStr, watch: &Watch) -> Result<Input, Failure> {
+/// A file that is open, and not yet read. What takes its place meanwhile is another file.
+pub struct Opened {
+    name: String,
+    file: File,
+    total: Option<u64>,
+    pub identity: Option<Identity>,
+}
+
+/// Opens a file; `-` is standard input.
+pub fn open(path: &OsStr) -> Result<Opened, Failure> {
     let name = name(path, "standard input");
     if path == "-" && system::input_was_closed() {
         return Err(Failure::plain(SYSTEM, format!("cannot read {name}: it is closed")));
     }
     let opened = if path == "-" { io::stdin().as_fd().try_clone_to_owned().map(File::from) } else { File::open(path) };
-    let mut file = opened.map_err(|error| Failure::system("open", &name, &error))?;
+    let file = opened.map_err(|error| Failure::system("open", &name, &error))?;
     let about = file.metadata().map_err(|error| Failure::system("read", &name, &error))?;
     if about.is_dir() {
         return Err(Failure::plain(SYSTEM, format!("cannot read {name}: it is a directory")));
     }
     let total = about.is_file().then_some(about.len());
-    let bytes = read_all(&mut file, &name, total, watch)?;
-    Ok(Input { name, bytes, identity: identity(&about) })
+    Ok(Opened { name, file, total, identity: identity(&about) })
+}
+
+impl Opened {
+    /// Reads all of it.
+    pub fn read(mut self, watch: &Watch) -> Result<Input, Failure> {
+        let bytes = read_all(&mut self.file, &self.name, self.total, watch)?;
+        Ok(Input { name: self.name, bytes, identity: self.identity })
+    }
+}
+
+/// Reads all of a file; `-` is standard input.
+pub fn read(path: &OsStr, watch: &Watch) -> Result<Input, Failure> {
+    open(path)?.read(watch)
 }
 
 fn read_all(from: &mut dyn Read, name: &str, total: Option<u64>, watch: &Watch) -> Result<Vec<u8>, Failure> {

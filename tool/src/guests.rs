@@ -90,7 +90,7 @@ pub fn show(arguments: &Arguments, watch: &Watch) -> Result<u8, Failure> {
 pub fn read(arguments: &Arguments, watch: &Watch) -> Result<u8, Failure> {
     let Seen { stored, plane, array } = Seen::read(arguments, watch)?;
     let inputs: Vec<&Input> = stored.inputs().chain(&plane.input).collect();
-    store(&array, &stored.input.name, &arguments.files[1], &inputs, arguments, watch)?;
+    store(&array, stored.part(), &stored.input.name, &arguments.files[1], &inputs, arguments, watch)?;
     Ok(0)
 }
 

@@ -33,13 +33,16 @@ A file name of - is standard input or standard output. Inputs of over 268,435,45
 Where write, cut, merge, convert, generate, table and guest write to:
   A file is replaced whole or stays as it was. What is written goes to a temporary file in the same folder, is synced, and
   then takes the place of the old file, with its mode. On an error, or on a signal that ends the command, nothing is left
-  of it. (Power loss can leave a file named .durpaxeta-NUMBER-NUMBER, which may be removed.)
+  of it. Commands that write one file take turns. What kill -9 or power loss left there, files named .durpaxeta-..., the
+  next one that writes the file removes.
   A symbolic link stays one, and the file that it leads to is replaced; another hard link of that file keeps the old bytes.
   An output that is also an input, under whatever name, is refused. What is no regular file, such as a pipe, is written as
   it comes.
   --no-clobber    refuses to replace a file
-  --describe      writes OUT.dpx beside OUT: kind, shape, byte length and checksum. show, check, same, explain, cut and
-                  merge then need no --kind and --shape, and refuse a file that is not the one described.
+  --describe      writes OUT.dpx beside OUT, with its mode: kind, shape, byte length and checksum, and of a cut which part
+                  of which shape it is. show, check, same, explain, cut, merge, convert --to-interleaved, table make and
+                  guest then need no --kind and --shape, and merge no --part; and they refuse a file that is not the one
+                  described. Whoever reads OUT while it is written finds a description that fits.
 
 Exit status:
   0         all went well, and all of it was delivered
@@ -47,7 +50,7 @@ Exit status:
   64        a wrong command line, or an output that is also an input
   65        a worksheet, a listing of a working table, or a file with a rights plane, that cannot be read
   66        a description that cannot be read
-  67        --kind, --shape or --part that differ from the description; same: two that differ in kind or shape
+  67        --kind, --shape or --part that differ from the description; same, merge: two that do not go together
   68, 69    a file of another length (68) or checksum (69) than its description says
   71        same: two valid files that are not the same table
   73        --no-clobber: the output is there already
@@ -100,8 +103,9 @@ and what the cell is: null at level N, value "text" or value hex 0A 0B. Masks an
 stores each mask byte as a bit. In a text \" \\ \n \t \r and \x0A stand for one byte; other characters for their bytes in
 UTF-8. Every cell stands in one line; their order is free. # begins a comment.
 
-With --describe OUT.dpx is written too, after OUT: a text with kind, shape, byte length and checksum of OUT. Where OUT.dpx is
-there already, --describe must be given, so that it stays right.
+With --describe OUT.dpx is written too: a text with kind, shape, byte length and checksum of OUT. Both are replaced, or on an
+error or a signal neither; and at every moment between, OUT.dpx fits OUT. Where OUT.dpx is there already, --describe must be
+given, so that it stays right.
 
 Examples:
   durpaxeta example > guests.txt
@@ -118,19 +122,26 @@ Takes the cells of a subset out of a stored table and stores them as a table of 
 the subset. A subset is one range for each side; the end is not included. Kind and shape may be left out where IN.dpx says
 them ('durpaxeta help write').
 
+With --describe OUT.dpx also says which part of which shape OUT is, so that 'durpaxeta merge' knows. A cut of a cut is a part of
+the first shape.
+
 Examples:
   durpaxeta example | durpaxeta write --describe - guests.bin
   durpaxeta cut --kind "depth 2, ragged, width 4, index at start" --shape 2x2 --subset 0..1,0..2 guests.bin host0.bin
   durpaxeta show --kind "depth 2, ragged, width 4, index at start" --shape 1x2 host0.bin
   durpaxeta cut --subset 1..2,0..2 --describe guests.bin host1.bin
   durpaxeta show host1.bin
+  cat host1.bin.dpx
 "#;
 
-pub const MERGE: &str = r#"durpaxeta merge [--kind KIND] --shape SHAPE --part SUBSET FILE [--part SUBSET FILE]... [--describe] [--no-clobber] OUT
+pub const MERGE: &str = r#"durpaxeta merge [--kind KIND] [--shape SHAPE] [--part SUBSET FILE]... [--describe] [--no-clobber] [FILE]... OUT
 
-Puts stored tables of one kind together into one. Each part is a subset of the whole and the file with its cells. Together
-the subsets hold each cell once; their order is free. The kind may be left out where each part has a description
-('durpaxeta help write'); the shape of the whole may not, as no part knows it.
+Puts stored tables of one kind together into one. Each part is a file, and the subset of the whole whose cells it has. Together
+the subsets hold each cell once; their order is free.
+
+A file that 'durpaxeta cut --describe' wrote is named alone: its description says kind, subset and the shape of the whole. Of any
+other the subset stands before it, behind --part, and --kind and --shape say what no description does. What is given and described
+must be the same, and so must the shapes of which the files are parts: else it is 67, with the name of the file.
 
 Examples:
   durpaxeta example | durpaxeta write - guests.bin
@@ -138,8 +149,9 @@ Examples:
   durpaxeta cut --kind "depth 2, ragged, width 4, index at start" --shape 2x2 --subset 1..2,0..2 --describe guests.bin host1.bin
   durpaxeta merge --kind "depth 2, ragged, width 4, index at start" --shape 2x2 --part 1..2,0..2 host1.bin --part 0..1,0..2 host0.bin all.bin
   cmp guests.bin all.bin
-  durpaxeta merge --shape 2x2 --part 0..1,0..2 host0.bin --part 1..2,0..2 host1.bin --no-clobber again.bin
+  durpaxeta merge host0.bin host1.bin --no-clobber again.bin
   cmp guests.bin again.bin
+  durpaxeta merge --part 0..1,0..2 host1.bin --part 1..2,0..2 host0.bin no.bin 2>&1 || echo "refused with $?"
 "#;
 
 pub const CONVERT: &str = r#"durpaxeta convert --kind KIND --shape SHAPE [--describe] [--no-clobber] IN OUT
@@ -283,7 +295,8 @@ hide a cell: another one is 17.
 
   show   prints what the guest sees of a stored table, as 'durpaxeta show' prints a table. A cell that the plane hides is null at
          level 1, whatever it is.
-  read   stores what show prints, as a table of the same kind and shape. Tables that differ in hidden cells alone give the same file.
+  read   stores what show prints, as a table of the same kind and shape; of a part, with --describe, as the same part. Tables that
+         differ in hidden cells alone give the same file.
   edit   sets a cell of a working table, a text as 'durpaxeta table' has it, if the plane shows that cell; 18 is a cell that it hides.
          All else is as in 'durpaxeta table set'. No hidden cell gets other masks or another value; where it lies may change. 16 can
          tell the guest how full the store is.

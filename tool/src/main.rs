@@ -17,6 +17,7 @@ mod listing;
 mod literal;
 mod locate;
 mod output;
+mod pair;
 #[cfg(test)]
 mod random;
 mod stored;

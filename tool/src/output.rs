@@ -1,17 +1,22 @@
 //! Outputs. A file is replaced whole or stays as it was: its bytes go to a temporary file in the same folder, are synced,
-//! and take the place of the old ones in one step. On a failure or a signal the temporary file is removed.
+//! and take the place of the old ones in one step. On a failure or a signal the temporary file is removed; what a command
+//! that was killed left is removed by the next one that writes the file. Commands that write one file take turns.
 //! What is no regular file (a pipe, a device) is written as it comes.
 
+use crate::crc::crc32c;
 use crate::failure::{Failure, KEPT, SYSTEM};
 use crate::files::{self, folder, identity, Identity, Input};
-use crate::system::{self, Held};
+use crate::system::{self, Held, Lock};
 use crate::watch::Watch;
 use std::ffi::OsStr;
 use std::fs::{self, File, Metadata, OpenOptions, Permissions};
 use std::io::{self, ErrorKind, Write};
 use std::os::fd::AsFd;
+use std::os::unix::ffi::OsStrExt;
 use std::os::unix::fs::{fchown, MetadataExt, OpenOptionsExt, PermissionsExt};
 use std::path::{Path, PathBuf};
+use std::thread;
+use std::time::Duration;
 
 /// Bytes that are written between two looks at the signals.
 const PIECE: usize = 1 << 16;
@@ -24,7 +29,7 @@ enum Way {
     /// No regular file, or an open descriptor: written as it comes.
     Stream(PathBuf),
     /// A regular file, there already or not; links are followed, so that a link stays one.
-    File { path: PathBuf, there: Option<Metadata> },
+    File(PathBuf),
 }
 
 /// An output that may be written.
@@ -53,23 +58,37 @@ impl Output {
             };
             return Err(Failure::usage(what));
         }
-        if no_clobber && matches!(output.way, Way::File { .. }) && fs::symlink_metadata(path).is_ok() {
+        if no_clobber && output.place().is_some() && fs::symlink_metadata(path).is_ok() {
             return Err(output.kept());
         }
         Ok(output)
     }
 
-    /// Whether this is a regular file, and so can have a description beside it.
-    pub fn is_file(&self) -> bool {
-        matches!(self.way, Way::File { .. })
+    /// The place of a regular file, which so can have a description beside it.
+    pub fn place(&self) -> Option<Place<'_>> {
+        match &self.way {
+            Way::File(path) => Some(Place { output: self, path }),
+            Way::Standard | Way::Stream(_) => None,
+        }
     }
 
     pub fn identity(&self) -> Option<Identity> {
-        match &self.way {
-            Way::Standard => standard().and_then(|file| file.metadata()).ok().as_ref().and_then(identity),
-            Way::Stream(path) => fs::metadata(path).ok().as_ref().and_then(identity),
-            Way::File { there, .. } => there.as_ref().and_then(identity),
-        }
+        let about = match &self.way {
+            Way::Standard => standard().and_then(|file| file.metadata()),
+            Way::Stream(path) | Way::File(path) => fs::metadata(path),
+        };
+        about.ok().as_ref().and_then(identity)
+    }
+
+    /// Writes what is no regular file, as it comes.
+    pub fn stream(&self, bytes: &[u8], watch: &Watch) -> Result<(), Failure> {
+        watch.step(format!("writing {}", self.name), Some(bytes.len() as u64), "bytes");
+        let to = match &self.way {
+            Way::Standard => standard(),
+            Way::Stream(path) | Way::File(path) => OpenOptions::new().append(true).open(path),
+        };
+        let mut to = to.map_err(|error| self.failed(&error))?;
+        pieces(self, &mut to, bytes, watch, || false)
     }
 
     fn kept(&self) -> Failure {
@@ -78,6 +97,14 @@ impl Output {
 
     fn failed(&self, error: &io::Error) -> Failure {
         Failure::system("write", &self.name, error)
+    }
+
+    fn takes_no_new_file(&self, error: &io::Error) -> Failure {
+        Failure::system("write", &format!("{}, as its folder takes no new file", self.name), error)
+    }
+
+    fn stopped(&self) -> Failure {
+        Failure::plain(SYSTEM, format!("cannot write {}: stopped by a signal", self.name))
     }
 }
 
@@ -92,10 +119,10 @@ fn way(path: &OsStr) -> io::Result<Way> {
         None => {}
     }
     match fs::symlink_metadata(&path) {
-        Err(error) if error.kind() == ErrorKind::NotFound => Ok(Way::File { path, there: None }),
+        Err(error) if error.kind() == ErrorKind::NotFound => Ok(Way::File(path)),
         Err(error) => Err(error),
         Ok(about) if about.is_dir() => Err(io::Error::new(ErrorKind::Other, "it is a directory")),
-        Ok(about) if about.is_file() => Ok(Way::File { path, there: Some(about) }),
+        Ok(about) if about.is_file() => Ok(Way::File(path)),
         Ok(_) => Ok(Way::Stream(path)),
     }
 }
@@ -111,39 +138,7 @@ fn standard() -> io::Result<File> {
 /// Prints on standard output.
 pub fn print(text: &str, watch: &Watch) -> Result<(), Failure> {
     let output = Output { name: "standard output".into(), way: Way::Standard, no_clobber: false };
-    write(&[(output, text.as_bytes())], watch)
-}
-
-/// Writes all outputs or none. They come to their places in their order, when all are stored safely.
-pub fn write(outputs: &[(Output, &[u8])], watch: &Watch) -> Result<(), Failure> {
-    // Declared first and so dropped last: a signal takes effect when the temporary files are gone.
-    let mut held = None;
-    let mut ready = Vec::new();
-    for (output, bytes) in outputs {
-        watch.step(format!("writing {}", output.name), Some(bytes.len() as u64), "bytes");
-        match &output.way {
-            Way::Standard => stream(output, standard(), bytes, watch)?,
-            Way::Stream(path) => stream(output, OpenOptions::new().append(true).open(path), bytes, watch)?,
-            Way::File { path, there } => {
-                let held = held.get_or_insert_with(system::hold);
-                ready.push((output, path, store(output, path, there.as_ref(), bytes, held, watch)?));
-            }
-        }
-    }
-    for (output, path, temporary) in ready {
-        temporary.put(output, path)?;
-        // So that the next one does not come to its place before this one, whenever the power fails.
-        File::open(folder(path)).and_then(|folder| sync(&folder)).map_err(|error| {
-            let name = format!("{}, which is in its place", output.name);
-            Failure::system("sync the folder of", &name, &error)
-        })?;
-    }
-    Ok(())
-}
-
-fn stream(output: &Output, to: io::Result<File>, bytes: &[u8], watch: &Watch) -> Result<(), Failure> {
-    let mut to = to.map_err(|error| output.failed(&error))?;
-    pieces(output, &mut to, bytes, watch, || false)
+    output.stream(text.as_bytes(), watch)
 }
 
 /// Writes piece by piece, until all is written or it is to stop.
@@ -160,6 +155,173 @@ fn pieces(output: &Output, to: &mut File, bytes: &[u8], watch: &Watch, stop: imp
     Ok(())
 }
 
+/// Where a regular file lies, or is to lie.
+#[derive(Clone, Copy)]
+pub struct Place<'o> {
+    output: &'o Output,
+    pub path: &'o Path,
+}
+
+/// What the names of all temporary files begin with. The names are short, so that they fit wherever the output's does.
+const TEMPORARY: &str = ".durpaxeta-";
+
+/// So many temporary files has one turn at most: the table, its description, and that of both tables.
+const MOST: u32 = 3;
+
+/// The turn to write a file: whoever has it writes the file and its description alone, and reads what they are now.
+pub struct Turn {
+    // Dropped in this order: the lock after all temporary files, which borrow the turn; a signal takes effect last.
+    lock: Option<LockFile>,
+    folder: PathBuf,
+    stem: String,
+    held: Held,
+}
+
+impl Turn {
+    /// Waits for the turn. On a file system without locks nobody waits, and nothing that was left is known for it.
+    pub fn take(place: Place<'_>, watch: &Watch) -> Result<Turn, Failure> {
+        let (output, folder) = (place.output, folder(place.path).to_path_buf());
+        let held = system::hold();
+        let stem = format!("{:08X}", crc32c(place.path.file_name().unwrap_or_default().as_bytes()));
+        let path = folder.join(format!("{TEMPORARY}{stem}-lock"));
+        watch.step(format!("writing {}, behind another command that writes it", output.name), None, "looks");
+        let mut looks = 0;
+        let lock = loop {
+            match LockFile::take(&path).map_err(|error| output.takes_no_new_file(&error))? {
+                Taken::Own(lock) => break Some(lock),
+                Taken::Nobody => break None,
+                Taken::Another => {}
+            }
+            // Asked again and again, and not waited for in the kernel, so that a signal is heard in between.
+            thread::sleep(Duration::from_millis(2.min(looks)));
+            if held.arrived() {
+                return Err(output.stopped());
+            }
+            looks += 1;
+            watch.done(looks);
+        };
+        let turn = Turn { lock, folder, stem, held };
+        if turn.lock.is_some() {
+            // Of a command that was killed: one that is alive would have the lock.
+            for number in 0..MOST {
+                let _ = fs::remove_file(turn.temporary(&turn.folder, number));
+            }
+        }
+        Ok(turn)
+    }
+
+    /// The name of a temporary file. It has the number of the command where the lock does not keep others from it.
+    fn temporary(&self, folder: &Path, number: u32) -> PathBuf {
+        match self.lock.is_some() && folder == self.folder {
+            true => folder.join(format!("{TEMPORARY}{}-{number}", self.stem)),
+            false => folder.join(format!("{TEMPORARY}{}-{number}", std::process::id())),
+        }
+    }
+
+    /// Stores bytes beside the place that they are for, with the mode and the owner of the table that is there.
+    pub fn store<'t>(
+        &'t self,
+        place: Place<'t>,
+        bytes: &[u8],
+        there: Option<&Metadata>,
+        watch: &Watch,
+    ) -> Result<Ready<'t>, Failure> {
+        let output = place.output;
+        let failed = |error: io::Error| output.failed(&error);
+        watch.step(format!("writing {}", output.name), Some(bytes.len() as u64), "bytes");
+        if fs::symlink_metadata(place.path).is_ok() {
+            if output.no_clobber {
+                return Err(output.kept());
+            }
+            // What is protected against writing is not replaced either.
+            OpenOptions::new().write(true).open(place.path).map_err(failed)?;
+        }
+        let mode = there.map_or(0o666, |about| about.mode() & 0o777);
+        let created = self.create(folder(place.path), mode);
+        let (temporary, mut file) = created.map_err(|error| output.takes_no_new_file(&error))?;
+        if let Some(about) = there {
+            let own = file.metadata().map_err(failed)?;
+            if (own.uid(), own.gid()) != (about.uid(), about.gid()) {
+                // Only the administrator can give a file away; for others it becomes their own.
+                let _ = fchown(&file, Some(about.uid()), Some(about.gid()));
+            }
+            file.set_permissions(Permissions::from_mode(about.mode() & 0o7777)).map_err(failed)?;
+        }
+        pieces(output, &mut file, bytes, watch, || self.held.arrived())?;
+        sync(&file).map_err(failed)?;
+        if self.held.arrived() {
+            return Err(output.stopped());
+        }
+        Ok(Ready { place, temporary, _turn: self })
+    }
+
+    fn create(&self, folder: &Path, mode: u32) -> io::Result<(Temporary, File)> {
+        let mut number = 0;
+        loop {
+            let path = self.temporary(folder, number);
+            match OpenOptions::new().write(true).create_new(true).mode(mode).open(&path) {
+                Ok(file) => return Ok((Temporary(Some(path)), file)),
+                Err(error) if error.kind() == ErrorKind::AlreadyExists && number < 1000 => number += 1,
+                Err(error) => return Err(error),
+            }
+        }
+    }
+}
+
+/// The file on which the turn of another file is locked. It is there while it is locked.
+struct LockFile {
+    path: PathBuf,
+    _file: File,
+}
+
+enum Taken {
+    Own(LockFile),
+    Another,
+    Nobody,
+}
+
+impl LockFile {
+    /// Who has the lock removes the file before it is free. So a lock on a file that is not in its place is none, and who
+    /// has one on the file in its place has it alone.
+    fn take(path: &Path) -> io::Result<Taken> {
+        let mut options = OpenOptions::new();
+        options.read(true).write(true);
+        let file = match options.clone().create_new(true).open(path) {
+            Ok(file) => {
+                // Whoever may write in this folder may take turns.
+                let _ = file.set_permissions(Permissions::from_mode(0o666));
+                file
+            }
+            Err(error) if error.kind() == ErrorKind::AlreadyExists => match options.open(path) {
+                Err(error) if error.kind() == ErrorKind::NotFound => return Ok(Taken::Another),
+                opened => opened?,
+            },
+            Err(error) => return Err(error),
+        };
+        match system::lock(&file) {
+            Lock::Own => {}
+            Lock::Another => return Ok(Taken::Another),
+            Lock::Nobody => {
+                let _ = fs::remove_file(path);
+                return Ok(Taken::Nobody);
+            }
+        }
+        match fs::symlink_metadata(path) {
+            Ok(about) if !about.is_file() => Err(ErrorKind::AlreadyExists.into()),
+            Ok(about) if identity(&about) == identity(&file.metadata()?) => {
+                Ok(Taken::Own(LockFile { path: path.to_path_buf(), _file: file }))
+            }
+            _ => Ok(Taken::Another),
+        }
+    }
+}
+
+impl Drop for LockFile {
+    fn drop(&mut self) {
+        let _ = fs::remove_file(&self.path);
+    }
+}
+
 /// A temporary file; removed when it goes, unless it was put in its place.
 struct Temporary(Option<PathBuf>);
 
@@ -167,53 +329,6 @@ impl Drop for Temporary {
     fn drop(&mut self) {
         if let Some(path) = &self.0 {
             let _ = fs::remove_file(path);
-        }
-    }
-}
-
-/// Stores the bytes beside a file, with the mode and the owner of what is there.
-fn store(
-    output: &Output,
-    path: &Path,
-    there: Option<&Metadata>,
-    bytes: &[u8],
-    held: &Held,
-    watch: &Watch,
-) -> Result<Temporary, Failure> {
-    let failed = |error: io::Error| output.failed(&error);
-    if there.is_some() {
-        // What is protected against writing is not replaced either.
-        OpenOptions::new().write(true).open(path).map_err(failed)?;
-    }
-    let mode = there.map_or(0o666, |about| about.mode() & 0o777);
-    let (temporary, mut file) = create(folder(path), mode).map_err(|error| {
-        Failure::system("write", &format!("{}, as its folder takes no new file", output.name), &error)
-    })?;
-    if let Some(about) = there {
-        let own = file.metadata().map_err(failed)?;
-        if (own.uid(), own.gid()) != (about.uid(), about.gid()) {
-            // Only the administrator can give a file away; for others it becomes their own.
-            let _ = fchown(&file, Some(about.uid()), Some(about.gid()));
-        }
-        file.set_permissions(Permissions::from_mode(about.mode() & 0o7777)).map_err(failed)?;
-    }
-    pieces(output, &mut file, bytes, watch, || held.arrived())?;
-    sync(&file).map_err(failed)?;
-    if held.arrived() {
-        return Err(Failure::plain(SYSTEM, format!("cannot write {}: stopped by a signal", output.name)));
-    }
-    Ok(temporary)
-}
-
-/// A new file in a folder. Its name is short, so that it fits wherever the output's does.
-fn create(folder: &Path, mode: u32) -> io::Result<(Temporary, File)> {
-    let mut number = 0;
-    loop {
-        let path = folder.join(format!(".durpaxeta-{}-{number}", std::process::id()));
-        match OpenOptions::new().write(true).create_new(true).mode(mode).open(&path) {
-            Ok(file) => return Ok((Temporary(Some(path)), file)),
-            Err(error) if error.kind() == ErrorKind::AlreadyExists && number < 1000 => number += 1,
-            Err(error) => return Err(error),
         }
     }
 }
@@ -226,21 +341,45 @@ fn sync(file: &File) -> io::Result<()> {
     }
 }
 
-impl Temporary {
-    fn put(mut self, output: &Output, path: &Path) -> Result<(), Failure> {
-        let Some(own) = &self.0 else { return Ok(()) };
-        if output.no_clobber {
-            // A link is made only where nothing is. Without links, the look before must do.
-            match fs::hard_link(own, path) {
-                Ok(()) => return Ok(()),
-                Err(error) if error.kind() == ErrorKind::AlreadyExists => return Err(output.kept()),
-                Err(_) if fs::symlink_metadata(path).is_ok() => return Err(output.kept()),
-                Err(_) => {}
+/// Bytes that are stored safely, and can take their place.
+pub struct Ready<'t> {
+    place: Place<'t>,
+    temporary: Temporary,
+    _turn: &'t Turn,
+}
+
+impl Ready<'_> {
+    pub fn put(mut self) -> Result<(), Failure> {
+        let Place { output, path } = self.place;
+        let Some(own) = &self.temporary.0 else { return Ok(()) };
+        // A link is made only where nothing is. Without links, the look before must do.
+        let linked = if output.no_clobber { Some(fs::hard_link(own, path)) } else { None };
+        match linked {
+            Some(Ok(())) => {}
+            Some(Err(error)) if error.kind() == ErrorKind::AlreadyExists => return Err(output.kept()),
+            Some(Err(_)) if fs::symlink_metadata(path).is_ok() => return Err(output.kept()),
+            _ => {
+                fs::rename(own, path).map_err(|error| output.failed(&error))?;
+                self.temporary.0 = None;
             }
         }
-        fs::rename(own, path).map_err(|error| output.failed(&error))?;
-        self.0 = None;
-        Ok(())
+        self.place.sync()
+    }
+}
+
+impl Place<'_> {
+    /// Takes away what is there.
+    pub fn remove(&self) -> Result<(), Failure> {
+        fs::remove_file(self.path).map_err(|error| self.output.failed(&error))?;
+        self.sync()
+    }
+
+    /// So that the next file does not come to its place before this one, whenever the power fails.
+    fn sync(&self) -> Result<(), Failure> {
+        File::open(folder(self.path)).and_then(|folder| sync(&folder)).map_err(|error| {
+            let name = format!("{}, which is in its place", self.output.name);
+            Failure::system("sync the folder of", &name, &error)
+        })
     }
 }
 

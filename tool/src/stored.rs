@@ -1,10 +1,11 @@
 //! Stored tables that a command reads: their kind and shape, given or described, and their bytes.
 
 use crate::arguments::Arguments;
-use crate::describe::{self, Described};
+use crate::describe::{self, Described, Part};
 use crate::failure::Failure;
-use crate::files::{self, Input};
+use crate::files::Input;
 use crate::locate::{self, Walk};
+use crate::pair::Pair;
 use crate::watch::Watch;
 use crate::words;
 use durpaxeta::{decode, decode_interleaved, Array, Kind, RaggedValues, Refusal};
@@ -46,29 +47,23 @@ pub struct Given<'a> {
     pub shape_by: &'a str,
 }
 
-impl Stored {
-    /// Reads a table. Kind and shape are given, or its description says them. `damaged` takes a file that is not the
-    /// one described, too.
-    pub fn read(path: &OsStr, given: Given<'_>, damaged: bool, watch: &Watch) -> Result<Stored, Failure> {
-        Stored::of(path, describe::find(path, watch)?, given, damaged, watch)
+impl Given<'_> {
+    /// Kind and shape where no description of these files says them.
+    fn alone(&self, paths: &[&OsStr]) -> Result<(Kind, Vec<u64>), Failure> {
+        let kind = self.kind.ok_or_else(|| missing_kind(&undescribed(paths)))?;
+        Ok((kind, self.shape.ok_or_else(|| missing_shape(&undescribed(paths)))?.to_vec()))
     }
+}
 
-    /// Reads a table whose description was looked for.
-    fn of(
-        path: &OsStr,
-        described: Option<Described>,
-        given: Given<'_>,
-        damaged: bool,
-        watch: &Watch,
-    ) -> Result<Stored, Failure> {
+impl Stored {
+    /// Takes a table that was read. Kind and shape are given, or its description says them. `damaged` takes a file that is not
+    /// the one described, too.
+    pub fn of(path: &OsStr, pair: Pair, given: Given<'_>, damaged: bool) -> Result<Stored, Failure> {
+        let Pair { input, described } = pair;
         let (kind, shape) = match &described {
             Some(described) => (described.kind(given.kind, "--kind")?, described.shape(given.shape, given.shape_by)?),
-            None => (
-                given.kind.ok_or_else(|| missing_kind(&undescribed(&[path])))?,
-                given.shape.ok_or_else(|| missing_shape(&undescribed(&[path])))?.to_vec(),
-            ),
+            None => given.alone(&[path])?,
         };
-        let input = files::read(path, watch)?;
         if let (Some(described), false) = (&described, damaged) {
             described.holds(&input)?;
         }
@@ -79,27 +74,37 @@ impl Stored {
     pub fn named(arguments: &Arguments, damaged: bool, watch: &Watch) -> Result<Stored, Failure> {
         let (kind, shape) = (given_kind(arguments)?, given_shape(arguments)?);
         let given = Given { kind, shape: shape.as_deref(), shape_by: "--shape" };
-        Stored::read(&arguments.files[0], given, damaged, watch)
+        let path = &arguments.files[0];
+        if !describe::is_beside(path) {
+            given.alone(&[path])?;
+        }
+        Stored::of(path, Pair::read(path, watch)?, given, damaged)
     }
 
     /// Reads the two tables of a command line, which have one kind and one shape. Either description can say them.
-    pub fn pair(arguments: &Arguments, watch: &Watch) -> Result<[Stored; 2], Failure> {
+    pub fn two(arguments: &Arguments, watch: &Watch) -> Result<[Stored; 2], Failure> {
         let (kind, shape) = (given_kind(arguments)?, given_shape(arguments)?);
+        let given = Given { kind, shape: shape.as_deref(), shape_by: "--shape" };
         let paths = [0, 1].map(|number| arguments.files[number].as_os_str());
-        let (one, other) = (describe::find(paths[0], watch)?, describe::find(paths[1], watch)?);
-        if let (Some(one), Some(other)) = (&one, &other) {
+        if !paths.iter().any(|path| describe::is_beside(path)) {
+            given.alone(&paths)?;
+        }
+        let (one, other) = (Pair::read(paths[0], watch)?, Pair::read(paths[1], watch)?);
+        if let (Some(one), Some(other)) = (&one.described, &other.described) {
             one.alike(other)?;
         }
-        let says = one.as_ref().or(other.as_ref()).map(|described| described.says.clone());
-        let (kind, shape) = match says {
-            Some(says) => (kind.or(Some(says.kind)), shape.or(Some(says.shape))),
-            None => (kind, shape),
+        let (kind, shape) = match one.described.as_ref().or(other.described.as_ref()).map(Described::says) {
+            Some(says) => (kind.unwrap_or(says.kind), shape.clone().unwrap_or_else(|| says.shape.clone())),
+            None => given.alone(&paths)?,
         };
-        let kind = kind.ok_or_else(|| missing_kind(&undescribed(&paths)))?;
-        let shape = shape.ok_or_else(|| missing_shape(&undescribed(&paths)))?;
         let given = || Given { kind: Some(kind), shape: Some(&shape), shape_by: "--shape" };
-        let one = Stored::of(paths[0], one, given(), false, watch)?;
-        Ok([one, Stored::of(paths[1], other, given(), false, watch)?])
+        let one = Stored::of(paths[0], one, given(), false)?;
+        Ok([one, Stored::of(paths[1], other, given(), false)?])
+    }
+
+    /// Which part it is, if its description says so.
+    pub fn part(&self) -> Option<&Part> {
+        self.described.as_ref().and_then(Described::part)
     }
 
     /// The file, and its description.
@@ -121,7 +126,7 @@ impl Stored {
 }
 
 /// Why kind and shape must be given: no file that is read has a description.
-fn undescribed(paths: &[&OsStr]) -> String {
+pub fn undescribed(paths: &[&OsStr]) -> String {
     let described = paths.iter().filter(|path| **path != "-").map(|path| describe::beside(path));
     let names: Vec<String> = described.map(|name| format!("no {}", name.to_string_lossy())).collect();
     match names.is_empty() {
@@ -140,11 +145,12 @@ impl Interleaved {
     /// Reads the older form, as `by` asks for. A file that is described is a table, and so is none.
     pub fn read(path: &OsStr, by: &str, arguments: &Arguments, watch: &Watch) -> Result<Interleaved, Failure> {
         let shape = given_shape(arguments)?.ok_or_else(|| missing_shape(""))?;
-        if let Some(described) = describe::find(path, watch)? {
-            let kind = format!("\"{}\"", described.says.kind);
+        let Pair { input, described } = Pair::read(path, watch)?;
+        if let Some(described) = described {
+            let kind = format!("\"{}\"", described.says().kind);
             return Err(describe::differ(by, "the older form", described.name(), &kind));
         }
-        Ok(Interleaved { shape, input: files::read(path, watch)? })
+        Ok(Interleaved { shape, input })
     }
 
     pub fn walk(&self) -> Walk {

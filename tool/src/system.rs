@@ -1,8 +1,11 @@
-//! What std has no words for: signals, and standard descriptors that were closed when the command began.
+//! What std has no words for: signals, locks, and standard descriptors that were closed when the command began.
 
 #![allow(unsafe_code)]
 
 use std::ffi::c_int;
+use std::fs::File;
+use std::io::{self, ErrorKind};
+use std::os::fd::AsRawFd;
 use std::sync::atomic::{AtomicBool, AtomicI32, Ordering};
 
 // The numbers of Linux.
@@ -14,11 +17,34 @@ const SIGXCPU: c_int = 24;
 const SIGXFSZ: c_int = 25;
 const SIG_IGN: usize = 1;
 const F_GETFD: c_int = 1;
+const LOCK_EX: c_int = 2;
+const LOCK_NB: c_int = 4;
 
 extern "C" {
     fn fcntl(descriptor: c_int, command: c_int, ...) -> c_int;
     fn signal(number: c_int, handler: usize) -> usize;
     fn raise(number: c_int) -> c_int;
+    fn flock(descriptor: c_int, operation: c_int) -> c_int;
+}
+
+/// Who has the lock on a file, when it was asked for.
+pub enum Lock {
+    Own,
+    Another,
+    /// The file system has no locks.
+    Nobody,
+}
+
+/// Asks for the lock on a file, which one has at a time. The kernel frees it when its holder ends, in whatever way.
+pub fn lock(file: &File) -> Lock {
+    // SAFETY: the descriptor is open as long as the file is lent.
+    if unsafe { flock(file.as_raw_fd(), LOCK_EX | LOCK_NB) } == 0 {
+        return Lock::Own;
+    }
+    match io::Error::last_os_error().kind() {
+        ErrorKind::WouldBlock | ErrorKind::Interrupted => Lock::Another,
+        _ => Lock::Nobody,
+    }
 }
 
 /// Whether standard input and standard output were closed. Before `main` std opens /dev/null in their place, which

@@ -5,7 +5,8 @@ use crate::failure::Failure;
 use crate::files::{self, Input};
 use crate::listing::{self, Listing};
 use crate::literal::{self, word};
-use crate::output::{self, Output};
+use crate::output;
+use crate::pair::Target;
 use crate::stored::Stored;
 use crate::watch::Watch;
 use crate::{words, worksheet};
@@ -85,8 +86,8 @@ fn write(
     arguments: &Arguments,
     watch: &Watch,
 ) -> Result<(), Failure> {
-    let out = Output::new(path, arguments.no_clobber, inputs)?;
-    output::write(&[(out, listing::write(listing).as_bytes())], watch)
+    let target = Target::plain(path, "remove it", arguments.no_clobber, inputs)?;
+    target.write(listing::write(listing).as_bytes(), None, watch)
 }
 
 pub fn make(arguments: &Arguments, watch: &Watch) -> Result<u8, Failure> {

@@ -51,6 +51,18 @@ pub fn subset(text: &str) -> Result<Subset, Failure> {
     text.parse().map_err(|error| told(error, format!("subset {text}")))
 }
 
+/// Reads a subset and tests it against its shape; answers how many cells it holds, too.
+pub fn subset_of(text: &str, shape: &[u64], subject: &str) -> Result<(Subset, usize), Failure> {
+    let subset = subset(text)?;
+    match subset_cells(shape, &subset) {
+        Ok(cells) => Ok((subset, cells.len())),
+        Err(refusal) => {
+            let detail = format!("The subset is {}; the shape is {}", text.trim(), shape_text(shape));
+            Err(Failure::refused(refusal, subject, detail))
+        }
+    }
+}
+
 pub fn subset_text(subset: &Subset) -> String {
     subset.to_string()
 }

@@ -3,8 +3,8 @@
 mod common;
 
 use common::*;
-use std::fs;
-use std::os::unix::fs::symlink;
+use std::fs::{self, Permissions};
+use std::os::unix::fs::{symlink, MetadataExt, PermissionsExt};
 use std::path::Path;
 
 /// A folder with the affinity table, described.
@@ -26,13 +26,23 @@ fn status(folder: &Path, arguments: &[&str]) -> (i32, String) {
 fn the_page_is_right() {
     let folder = described("page");
     let page = include_str!("../../docs/FORMAT.md");
-    let (_, rest) = page.split_once("```description\n").expect("the page has a description");
-    let (wanted, _) = rest.split_once("```").unwrap();
-    assert_eq!(fs::read_to_string(folder.join("guests.bin.dpx")).unwrap(), wanted);
+    let shown = |what: &str| {
+        let (_, rest) = page.split_once(&format!("```{what}\n")).unwrap_or_else(|| panic!("no {what} on the page"));
+        rest.split_once("```").unwrap().0
+    };
+    assert_eq!(fs::read_to_string(folder.join("guests.bin.dpx")).unwrap(), shown("description"));
+    for (subset, out) in [("0..1,0..2", "host0.bin"), ("1..2,0..2", "host1.bin")] {
+        good(&folder, &["cut", "--subset", subset, "--describe", "guests.bin", out]);
+    }
+    assert_eq!(fs::read_to_string(folder.join("host1.bin.dpx")).unwrap(), shown("part"));
+    let swapped = "merge --shape 2x2 --part 0..1,0..2 host1.bin --part 1..2,0..2 host0.bin all.bin";
+    let (status, err) = self::status(&folder, &swapped.split(' ').collect::<Vec<_>>());
+    assert_eq!(status, 67);
+    assert!(page.contains(&format!("    $ durpaxeta {swapped}\n    {err}")), "{err}");
     let mut bytes = fs::read(folder.join("guests.bin")).unwrap();
     bytes[59] ^= 1;
     fs::write(folder.join("guests.bin"), bytes).unwrap();
-    let (status, err) = status(&folder, &["show", "guests.bin"]);
+    let (status, err) = self::status(&folder, &["show", "guests.bin"]);
     assert_eq!(status, 69);
     assert!(page.contains(&format!("    $ durpaxeta show guests.bin\n    {err}")), "{err}");
     // Without the description nobody notices.
@@ -72,13 +82,143 @@ fn kind_and_shape_come_from_it() {
     assert!(code == 64 && err.contains("all.bin.dpx is there and would no longer be right: remove it"), "{err}");
     let (code, err) = status(&folder, &["convert", "--to-interleaved", "--describe", "new.bin", "no.bin"]);
     assert!(code == 64 && err.contains("the older form has none"), "{err}");
-    // Standard input has none, so all must be said; and a merge needs the whole's shape.
+    // Standard input has none, so all must be said.
     assert_eq!(status(&folder, &["show", "-"]).0, 64);
-    assert_eq!(status(&folder, &[&["merge"][..], &parts, &["no.bin"]].concat()).0, 64);
     fs::remove_file(folder.join("row1.bin.dpx")).unwrap();
     let (code, err) = status(&folder, &[&["merge", "--shape", "2x2"][..], &parts, &["no.bin"]].concat());
     assert!(code == 64 && err.contains("--kind is missing and there is no row1.bin.dpx"), "{err}");
     assert!(!folder.join("no.bin").exists());
+}
+
+/// A working table, and what a guest sees, are made of a described table; the guest's table is described as well.
+#[test]
+fn tables_and_guests_take_it() {
+    let folder = described("tables-guests");
+    let given = ["--kind", KIND, "--shape", "2x2"];
+    let same = |line: &[&str], files: &[&str]| {
+        let by_hand = good(&folder, &[line, &given, files].concat()).out;
+        let bytes = files.get(1).map(|out| fs::read(folder.join(out)).unwrap());
+        assert_eq!(good(&folder, &[line, files].concat()).out, by_hand, "{line:?}");
+        assert_eq!(files.get(1).map(|out| fs::read(folder.join(out)).unwrap()), bytes, "{line:?}");
+        assert_eq!(status(&folder, &[line, &["--shape", "4"], files].concat()).0, 67, "{line:?}");
+    };
+    same(&["table", "make", "--store", "12"], &["guests.bin", "work.txt"]);
+    same(&["guest", "show", "--rights", "1010"], &["guests.bin"]);
+    same(&["guest", "read", "--rights", "1010", "--describe"], &["guests.bin", "own.bin"]);
+    assert!(good(&folder, &["check", "own.bin"]).text().contains("2x2, 4 cells: 3 null at level 1"));
+    // What a guest reads of a part is that part.
+    good(&folder, &["cut", "--subset", "1..2,0..2", "--describe", "guests.bin", "row1.bin"]);
+    good(&folder, &["guest", "read", "--rights", "11", "--describe", "row1.bin", "own.bin"]);
+    let read = |name: &str| fs::read(folder.join(name)).unwrap();
+    assert_eq!(read("own.bin.dpx"), read("row1.bin.dpx"));
+    // A listing says its kind and shape itself, and takes no place that is described.
+    let said = status(&folder, &["table", "make", "--store", "12", "guests.bin", "own.bin"]);
+    assert!(
+        said.0 == 64 && said.1.contains("own.bin.dpx is there and would no longer be right: remove it"),
+        "{}",
+        said.1
+    );
+    for (line, files) in [
+        (&["table", "set", "--cell", "0,0", "--to", "value \"\""][..], ["work.txt", "own.bin"]),
+        (&["table", "pack", "--most", "1"], ["work.txt", "own.bin"]),
+        (&["guest", "edit", "--rights", "1010", "--cell", "0,0", "--to", "value \"\""], ["work.txt", "own.bin"]),
+    ] {
+        assert_eq!(status(&folder, &[line, &files].concat()).0, 64, "{line:?}");
+    }
+    assert_eq!(read("own.bin"), read("row1.bin"));
+}
+
+/// The lines of a description, without its title.
+fn lines(folder: &Path, name: &str) -> Vec<String> {
+    let text = fs::read_to_string(folder.join(format!("{name}.dpx"))).unwrap();
+    text.lines().skip(1).map(str::to_string).collect()
+}
+
+/// What is cut knows where it belongs, and merge holds that against what it is told.
+#[test]
+fn parts_know_their_place() {
+    let folder = described("parts");
+    for (subset, out) in [("0..1,0..2", "h0.bin"), ("1..2,0..2", "h1.bin")] {
+        good(&folder, &["cut", "--subset", subset, "--describe", "guests.bin", out]);
+        assert_eq!(lines(&folder, out)[1..3], ["shape: 1x2".to_string(), format!("part: {subset} of 2x2")]);
+    }
+    // All of a table is no part of it.
+    good(&folder, &["cut", "--subset", "0..2,0..2", "--describe", "guests.bin", "h.bin"]);
+    let read = |name: &str| fs::read(folder.join(name)).unwrap();
+    assert_eq!(read("h.bin.dpx"), read("guests.bin.dpx"));
+    let before = contents(&folder);
+    let refused = |line: &str, wanted: i32, told: &str| {
+        let said = sh(&folder, &format!("durpaxeta merge {line} no.bin"));
+        assert_eq!((said.status, said.err.contains(told)), (wanted, true), "{line}: {}", said.err);
+        assert!(contents(&folder) == before, "{line}");
+    };
+    // Told nothing, told all, and some of it.
+    for line in [
+        "h1.bin h0.bin",
+        "--shape 2x2 h0.bin h1.bin",
+        "--part 1..2,0..2 h1.bin h0.bin",
+        "--part 0..1,0..2 - --part 1..2,0..2 h1.bin < h0.bin --kind",
+        "--shape 2x2 --part 0..1,0..2 h0.bin --part 1..2,0..2 h1.bin --kind",
+    ] {
+        let line = line.replace("--kind", &format!("--kind '{KIND}'"));
+        let said = sh(&folder, &format!("durpaxeta merge --describe {line} all.bin"));
+        assert_eq!((said.status, said.err.as_str()), (0, ""), "{line}");
+        assert_eq!((read("all.bin"), read("all.bin.dpx")), (read("guests.bin"), read("guests.bin.dpx")), "{line}");
+        sh(&folder, "rm all.bin all.bin.dpx");
+    }
+    // Where OUT is forgotten no part is written over.
+    assert_eq!(status(&folder, &["merge", "--describe", "h0.bin", "h1.bin"]).0, 12);
+    // Exchanged, told twice over, of another whole.
+    let differ = "--part 0..1,0..2 says 0..1,0..2 of 2x2; h1.bin.dpx says 1..2,0..2 of 2x2";
+    refused("--shape 2x2 --part 0..1,0..2 h1.bin --part 1..2,0..2 h0.bin", 67, differ);
+    refused("--part 0..1,0..2 h1.bin h0.bin", 67, differ);
+    refused("--shape 3x2 h0.bin h1.bin", 67, "--shape says 3x2; h0.bin.dpx says 0..1,0..2 of 2x2");
+    refused("h0.bin h1.bin h0.bin", 12, "by 0..1,0..2 and by 0..1,0..2, in h0.bin and in h0.bin");
+    refused("h0.bin", 12, "Cell 1,0 is in no part");
+    // A description without a part says nothing of it, as those of earlier versions.
+    refused("h0.bin guests.bin", 64, "--part is missing for guests.bin and guests.bin.dpx says no part");
+    refused("h0.bin guests.txt", 64, "--part is missing for guests.txt and there is no guests.txt.dpx");
+    refused("h0.bin - < h1.bin", 64, "--part is missing for standard input; for example");
+    refused(
+        &format!("--kind '{KIND}' --part 0..2,0..2 - < guests.bin"),
+        64,
+        "--shape is missing, the shape of the whole",
+    );
+    let old = String::from_utf8(read("h1.bin.dpx")).unwrap().replace("part: 1..2,0..2 of 2x2\n", "");
+    fs::write(folder.join("h1.bin.dpx"), &old).unwrap();
+    good(&folder, &["merge", "--part", "1..2,0..2", "h1.bin", "h0.bin", "all.bin"]);
+    assert_eq!(read("all.bin"), read("guests.bin"));
+    // Parts of two wholes.
+    fs::write(folder.join("h1.bin.dpx"), old.replace("bytes:", "part: 0..1,1..3 of 4x3\nbytes:")).unwrap();
+    fs::remove_file(folder.join("all.bin")).unwrap();
+    let said = status(&folder, &["merge", "h0.bin", "h1.bin", "no.bin"]);
+    assert!(said.0 == 67 && said.1.contains("h0.bin.dpx says 2x2; h1.bin.dpx says 0..1,1..3 of 4x3"), "{}", said.1);
+    for (part, wanted) in
+        [("0..1,1..4 of 4x3", 3), ("0..2,1..3 of 4x3", 66), ("0..1,1..3 of 4x0", 2), ("0..1,1..3", 66)]
+    {
+        fs::write(folder.join("h1.bin.dpx"), format!("{old}part: {part}\n")).unwrap();
+        let said = status(&folder, &["show", "h1.bin"]);
+        assert!(said.0 == wanted && said.1.contains("h1.bin.dpx"), "{part}: {}", said.1);
+    }
+}
+
+/// A part of a part is one of the same whole: all of them merge at once.
+#[test]
+fn parts_of_parts() {
+    let folder = described("parts-of-parts");
+    for (from, subset, out) in [
+        ("guests.bin", "0..1,0..2", "h0.bin"),
+        ("guests.bin", "1..2,0..2", "h1.bin"),
+        ("h1.bin", "0..1,0..1", "h10.bin"),
+        ("h1.bin", "0..1,1..2", "h11.bin"),
+        ("h11.bin", "0..1,0..1", "again.bin"),
+    ] {
+        good(&folder, &["cut", "--subset", subset, "--describe", from, out]);
+    }
+    assert_eq!(lines(&folder, "h11.bin")[1..3], ["shape: 1x1", "part: 1..2,1..2 of 2x2"]);
+    assert_eq!(lines(&folder, "again.bin"), lines(&folder, "h11.bin"));
+    good(&folder, &["merge", "h10.bin", "h0.bin", "h11.bin", "all.bin"]);
+    good(&folder, &["same", "guests.bin", "all.bin"]);
 }
 
 /// A description is of the file, under whatever link it is read or written.
@@ -191,6 +331,22 @@ fn a_description_that_is_none() {
     fs::remove_file(folder.join("guests.bin.dpx")).unwrap();
     symlink("nowhere", folder.join("guests.bin.dpx")).unwrap();
     assert_eq!(status(&folder, &["show", "--kind", KIND, "--shape", "2x2", "guests.bin"]).0, 74);
+}
+
+/// Who may not read a table does not read its checksum either.
+#[test]
+fn a_description_has_the_mode_of_its_table() {
+    let folder = described("description-modes");
+    let mode = |name: &str| fs::metadata(folder.join(name)).unwrap().mode() & 0o7777;
+    for wanted in [0o600, 0o640, 0o644] {
+        fs::set_permissions(folder.join("guests.bin"), Permissions::from_mode(wanted)).unwrap();
+        good(&folder, &["write", "--describe", "guests.txt", "guests.bin"]);
+        assert_eq!((mode("guests.bin"), mode("guests.bin.dpx")), (wanted, wanted));
+        // Written for the first time, too.
+        fs::remove_file(folder.join("guests.bin.dpx")).unwrap();
+        good(&folder, &["write", "--describe", "guests.txt", "guests.bin"]);
+        assert_eq!((mode("guests.bin"), mode("guests.bin.dpx")), (wanted, wanted));
+    }
 }
 
 /// No wrong description is left behind, and none is written half.

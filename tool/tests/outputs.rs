@@ -4,7 +4,7 @@ mod common;
 
 use common::*;
 use std::fs::{self, Permissions};
-use std::io::{Read, Write};
+use std::io::{BufRead, BufReader, Read, Write};
 use std::os::unix::fs::{symlink, MetadataExt, PermissionsExt};
 use std::os::unix::process::{CommandExt, ExitStatusExt};
 use std::path::Path;
@@ -57,6 +57,9 @@ fn a_limit_on_file_sizes_keeps_the_old_file() {
 fn a_full_disk_keeps_the_old_file() {
     let folder = prepared("full", 600_000);
     fs::create_dir(folder.join("disk")).unwrap();
+    good(&folder, &["write", "--describe", "guests.txt", "guests.bin"]);
+    let sheet = fs::read_to_string(folder.join("guests.txt")).unwrap();
+    fs::write(folder.join("other.txt"), sheet.replace("0-3,8", "0-3,9")).unwrap();
     // A file system of its own, seen by this shell alone.
     let mounted = |line: &str| {
         let line = format!("mount -t tmpfs -o size=128k tmpfs disk && {{ {line}; }}");
@@ -75,6 +78,14 @@ fn a_full_disk_keeps_the_old_file() {
     assert_eq!(said.text(), "status 74\nstatus 74\nkeep.bin\nkept\n", "{}", said.err);
     assert!(said.err.contains("cannot write disk/keep.bin: No space left on device"), "{}", said.err);
     assert!(said.err.contains("cannot write disk/new.bin: No space left on device"), "{}", said.err);
+    // A pair stays one: with no room for the table, and with none for so much as a description.
+    let said = mounted(&format!(
+        "durpaxeta write --describe guests.txt disk/t.bin; {}; echo status $?; head -c 200k /dev/zero > disk/fill 2> /dev/null; \
+         durpaxeta write --describe other.txt disk/t.bin; echo status $?; ls -A disk; cmp disk/t.bin guests.bin && \
+         cmp disk/t.bin.dpx guests.bin.dpx && durpaxeta show disk/t.bin > shown.txt",
+        cut_long("disk/t.bin --describe"),
+    ));
+    assert_eq!((said.status, said.text()), (0, "status 74\nstatus 74\nfill\nt.bin\nt.bin.dpx\n"), "{}", said.err);
 }
 
 #[test]
@@ -133,15 +144,25 @@ fn send(child: &Child, number: i32) {
     assert_eq!(unsafe { kill(child.id() as i32, number) }, 0);
 }
 
+/// Whether a command left anything but its output, or still has it.
 fn temporary(folder: &Path) -> bool {
-    let mut names = fs::read_dir(folder).unwrap().map(|entry| entry.unwrap().file_name());
-    names.any(|name| name.to_string_lossy().starts_with(".durpaxeta-"))
+    hidden(folder).next().is_some()
+}
+
+/// Whether a command has its turn and writes: before that there is its lock alone.
+fn writing(folder: &Path) -> bool {
+    hidden(folder).any(|name| !name.ends_with("-lock"))
+}
+
+fn hidden(folder: &Path) -> impl Iterator<Item = String> {
+    let names = fs::read_dir(folder).unwrap().map(|entry| entry.unwrap().file_name().into_string().unwrap());
+    names.filter(|name| name.starts_with(".durpaxeta-"))
 }
 
 /// Stops a child in the middle of its writing: its temporary file is there, and stays there. None if it was too quick.
 fn stopped_while_writing(folder: &Path, mut child: Child) -> Option<Child> {
     let deadline = Instant::now() + Duration::from_secs(30);
-    while !temporary(folder) {
+    while !writing(folder) {
         assert!(Instant::now() < deadline, "nothing is written");
         if child.try_wait().unwrap().is_some() {
             return None;
@@ -153,7 +174,7 @@ fn stopped_while_writing(folder: &Path, mut child: Child) -> Option<Child> {
         // Behind the name in brackets: T is stopped, Z is over.
         let line = fs::read_to_string(&state).unwrap();
         match line.rsplit(") ").next().unwrap().chars().next() {
-            Some('T') if temporary(folder) => return Some(child),
+            Some('T') if writing(folder) => return Some(child),
             Some('T' | 'Z') => break,
             _ => assert!(Instant::now() < deadline, "it does not stop"),
         }
@@ -192,12 +213,67 @@ fn a_signal_during_a_write_leaves_nothing() {
                 if out == "keep.bin" {
                     fs::write(folder.join(out), b"kept as it was").unwrap();
                 }
-                // What was killed outright leaves its temporary file.
+                // What was killed outright leaves its temporary file and its lock.
                 sh(&folder, "rm -f .durpaxeta-*");
             };
             assert_eq!(status.signal(), Some(number), "{name}, {out}: {status}");
             assert!(contents(&folder) == before, "{name}, {out}: something was left");
         }
+    }
+}
+
+/// A cut of the long table that was stopped while it writes.
+fn stopped_cut(folder: &Path, more: &[&str]) -> Child {
+    let cut = [&["cut", "--kind", LONG, "--shape", "1", "--subset", "0..1"], more].concat();
+    let one = |_| {
+        sh(folder, "rm -f .durpaxeta-*");
+        stopped_while_writing(folder, start(folder, &cut))
+    };
+    (0..100).find_map(one).expect("it never was slow enough")
+}
+
+/// Who writes a file that another command writes waits, says so, and can be stopped.
+#[test]
+fn a_second_writer_waits() {
+    let folder = prepared("turns", 8_000_000);
+    let mut first = stopped_cut(&folder, &["--describe", "long.bin", "keep.bin"]);
+    let before = fs::read(folder.join("keep.bin")).unwrap();
+    let write = |out: &str| start(&folder, &["write", "--describe", "guests.txt", out]);
+    let mut waiting = [write("keep.bin"), write("keep.bin")];
+    // Another file has another turn.
+    assert!(write("other.bin").wait().unwrap().success());
+    for child in &mut waiting {
+        let told = BufReader::new(child.stderr.take().unwrap()).lines().map(|line| line.unwrap());
+        let begin = "durpaxeta: writing keep.bin, behind another command that writes it: ";
+        let line = told.into_iter().find(|line| line.starts_with(begin)).expect("it waits and tells nothing");
+        assert!(line.ends_with(" looks so far"), "{line}");
+    }
+    let [mut stopped, mut second] = waiting;
+    send(&stopped, 15);
+    assert_eq!(stopped.wait().unwrap().signal(), Some(15));
+    assert!(first.try_wait().unwrap().is_none() && second.try_wait().unwrap().is_none());
+    assert!(fs::read(folder.join("keep.bin")).unwrap() == before);
+    send(&first, SIGCONT);
+    assert!(first.wait().unwrap().success() && second.wait().unwrap().success());
+    good(&folder, &["check", "keep.bin"]);
+    assert_eq!(fs::read(folder.join("keep.bin")).unwrap(), fs::read(folder.join("guests.bin")).unwrap());
+    assert!(!temporary(&folder));
+}
+
+/// What a command that was killed left is removed by the next one that writes the file, and by no other.
+#[test]
+fn what_was_left_is_removed() {
+    let folder = prepared("left-over", 8_000_000);
+    for describe in [&["--describe"][..], &[]] {
+        let mut child = stopped_cut(&folder, &[describe, &["long.bin", "out.bin"]].concat());
+        child.kill().unwrap();
+        child.wait().unwrap();
+        assert!(temporary(&folder));
+        good(&folder, &["write", "guests.txt", "other.bin"]);
+        assert!(temporary(&folder));
+        good(&folder, &[&["write"], describe, &["guests.txt", "out.bin"]].concat());
+        assert!(!temporary(&folder));
+        sh(&folder, "rm -f out.bin out.bin.dpx");
     }
 }
 
