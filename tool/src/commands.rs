@@ -8,13 +8,14 @@ use crate::locate::Walk;
 use crate::output::{self, Output};
 use crate::stored::{cells, given_kind, given_shape, missing_kind, missing_shape, stopped, Given, Interleaved, Stored};
 use crate::watch::Watch;
-use crate::{explain, guests, help, json, tables, words, worksheet};
+use crate::{explain, guests, help, json, literal, tables, words, worksheet};
 use durpaxeta::{
     decode, encode, encode_interleaved, extract, generate, merge, partial_decode, subset_cells, Array, Cell, Chunk,
     Kind, Refusal, Subset, Values,
 };
 use std::ffi::{OsStr, OsString};
 use std::fs;
+use std::os::unix::ffi::OsStrExt;
 
 struct Command {
     name: &'static str,
@@ -147,10 +148,11 @@ pub fn run(words: Vec<OsString>) -> Result<u8, Failure> {
     let watch = Watch::start();
     let mut words = words.into_iter();
     let first = words.next().ok_or_else(|| Failure::usage("no command is given"))?;
-    let text = first.to_string_lossy().into_owned();
+    let clear = |word: OsString| literal::clear(word.as_bytes());
+    let text = clear(first);
     let page = match text.as_str() {
         "--help" | "-h" | "help" => match words.next() {
-            Some(name) => Some(page(&name.to_string_lossy())?),
+            Some(name) => Some(page(&clear(name))?),
             None => Some(help::GENERAL),
         },
         "--version" | "-V" => Some(help::VERSION),
@@ -158,12 +160,12 @@ pub fn run(words: Vec<OsString>) -> Result<u8, Failure> {
     };
     if let Some(page) = page {
         return match words.next() {
-            Some(more) => Err(Failure::usage(format!("{text} does not take \"{}\"", more.to_string_lossy()))),
+            Some(more) => Err(Failure::usage(format!("{text} does not take \"{}\"", clear(more)))),
             None => print(page, &watch),
         };
     }
     let command = match COMMANDS.iter().find(|command| command.page() == text && command.name != text) {
-        Some(one) => match words.next().map(|word| word.to_string_lossy().into_owned()).as_deref() {
+        Some(one) => match words.next().map(clear).as_deref() {
             Some("--help" | "-h") => return print(one.help, &watch),
             second => command(&format!("{text} {}", second.unwrap_or_default()))
                 .map_err(|_| Failure::usage(followed(&text)).of_command(one.page()))?,

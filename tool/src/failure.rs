@@ -1,5 +1,8 @@
 //! What can go wrong, how it is told, and the exit status.
+//!
+//! A failure may hold text of others as it came: names of files, words, lines. It becomes clear where the failure is told.
 
+use crate::literal::clear;
 use durpaxeta::{Blame, Refusal};
 use std::fmt;
 use std::io;
@@ -99,9 +102,7 @@ impl Failure {
 pub fn refusal_text(refusal: Refusal, detail: Option<&str>) -> String {
     let mut text = format!("refusal {}: {}.", refusal.number(), refusal.message());
     if let Some(detail) = detail {
-        text.push_str("\n  ");
-        text.push_str(detail);
-        text.push('.');
+        text.push_str(&format!("\n  {}.", clear(detail)));
     }
     text.push_str(&format!("\n  Caused by {}.", refusal.blame()));
     if refusal.blame() == Blame::Storer {
@@ -113,14 +114,18 @@ pub fn refusal_text(refusal: Refusal, detail: Option<&str>) -> String {
 impl fmt::Display for Failure {
     fn fmt(&self, f: &mut fmt::Formatter<'_>) -> fmt::Result {
         match self {
-            Failure::Usage { what, command: Some(command) } => write!(f, "{what}\nSee 'durpaxeta help {command}'."),
-            Failure::Usage { what, command: None } => write!(f, "{what}\nSee 'durpaxeta help'."),
-            Failure::Worksheet { name, line: Some(line), what } => write!(f, "{name}, line {line}: {what}"),
-            Failure::Worksheet { name, line: None, what } => write!(f, "{name}: {what}"),
-            Failure::Refused { refusal, subject, detail } => {
-                write!(f, "{subject}: {}", refusal_text(*refusal, detail.as_deref()))
+            Failure::Usage { what, command } => {
+                let page = command.map_or(String::new(), |command| format!(" {command}"));
+                write!(f, "{}\nSee 'durpaxeta help{page}'.", clear(what))
             }
-            Failure::Plain { what, .. } => f.write_str(what),
+            Failure::Worksheet { name, line: Some(line), what } => {
+                write!(f, "{}, line {line}: {}", clear(name), clear(what))
+            }
+            Failure::Worksheet { name, line: None, what } => write!(f, "{}: {}", clear(name), clear(what)),
+            Failure::Refused { refusal, subject, detail } => {
+                write!(f, "{}: {}", clear(subject), refusal_text(*refusal, detail.as_deref()))
+            }
+            Failure::Plain { what, .. } => f.write_str(&clear(what)),
         }
     }
 }

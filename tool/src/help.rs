@@ -29,6 +29,8 @@ A stored table does not say its kind or its shape. You do, or its description do
 
 Depth is the number of mask levels. Level 1 is the outermost. Bytes are counted from 0.
 A file name of - is standard input or standard output. Inputs of over 268,435,456 bytes are not read.
+In a message the name of a file, a word or a line stands on one line: line ends, controls, invisible and right-to-left
+characters and bytes that are no UTF-8 are told as \n, \r, \t or \x1B.
 
 Where write, cut, merge, convert, generate, table and guest write to:
   A file is replaced whole or stays as it was. What is written goes to a temporary file in the same folder, is synced, and
