@@ -277,11 +277,11 @@ pub const GUEST: &str = r#"durpaxeta guest show --rights PLANE [--kind KIND --sh
 durpaxeta guest read --rights PLANE [--kind KIND --shape SHAPE] [--describe] [--no-clobber] IN OUT
 durpaxeta guest edit --rights PLANE --cell CELL --to WHAT [--no-clobber] TABLE OUT
 
-A guest may see some cells of a table, and learns nothing of the others. A rights plane says which: a number for each cell, row by
-row, 1 where the guest may see it and 0 where not. Commas and blanks between the numbers are free: 1,0,1,0 and '10 10' are one
-plane. --rights-file FILE takes the plane from a file instead; there it may have lines, and # begins a comment. A plane with
-another number, or for another count of cells, is refused with 4. The kind must have a depth of at least 1, as only a mask can
-hide a cell: another one is 17.
+A guest may see some cells of a table, and learns nothing of the others. A rights plane says which: a digit for each cell, row by
+row, 1 where the guest may see it and 0 where not, with commas between: 1,0,1,0. --rights-file FILE takes the plane from a file
+instead, where the end of a line does for a comma, and # begins a comment. A blank does for a comma, too. Digits of two cells with
+nothing between, as in '00 01', are refused: that could be four cells, or two bytes. A plane with another digit, or for another
+count of cells, is refused with 4. The kind must have a depth of at least 1, as only a mask can hide a cell: another one is 17.
 
   show   prints what the guest sees of a stored table, as 'durpaxeta show' prints a table. A cell that the plane hides is null at
          level 1, whatever it is.
@@ -301,7 +301,7 @@ Examples:
   durpaxeta guest show --rights 1,0,1,0 guests.bin
   durpaxeta guest read --rights 1,0,1,0 --describe guests.bin own.bin
   durpaxeta show --json own.bin
-  printf '1 0  # host 0\n1 0  # host 1\n' > rights.txt
+  printf '1,0  # host 0\n1,0  # host 1\n' > rights.txt
   durpaxeta table make --store 12 guests.bin work.txt
   durpaxeta guest edit --rights-file rights.txt --cell 1,0 --to 'value "4-7"' work.txt next.txt
   durpaxeta guest edit --rights-file rights.txt --cell 0,1 --to 'value "8"' work.txt no.txt 2>&1 || echo "refused with $?"

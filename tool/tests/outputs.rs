@@ -324,7 +324,7 @@ fn no_input_of_any_command_is_replaced() {
     good(&folder, &[&["cut"][..], &row, &["0..1,0..2", "guests.bin", "row0.bin"]].concat());
     good(&folder, &[&["cut"][..], &row, &["1..2,0..2", "guests.bin", "row1.bin"]].concat());
     fs::write(folder.join("old.bin"), [1, 0, 0, 0, 1, 0, 0, 0, b'A']).unwrap();
-    fs::write(folder.join("plane.txt"), "11\n11\n").unwrap();
+    fs::write(folder.join("plane.txt"), "1,1\n1,1\n").unwrap();
     good(&folder, &["table", "make", "--kind", KIND, "--shape", "2x2", "--store", "9", "guests.bin", "work.txt"]);
     fs::hard_link(folder.join("row1.bin"), folder.join("linked.bin")).unwrap();
     // A worksheet that has the name of a description.
@@ -349,9 +349,9 @@ fn no_input_of_any_command_is_replaced() {
         ],
         &["convert", "--kind", kind, "--shape", "1", "old.bin", "old.bin"],
         &["write", "--describe", "table.dpx", "table"],
-        &["guest", "read", "--kind", KIND, "--shape", "2x2", "--rights", "1111", "guests.bin", "guests.bin"],
+        &["guest", "read", "--kind", KIND, "--shape", "2x2", "--rights", "1,1,1,1", "guests.bin", "guests.bin"],
         &["guest", "read", "--kind", KIND, "--shape", "2x2", "--rights-file", "plane.txt", "guests.bin", "./plane.txt"],
-        &["guest", "edit", "--rights", "1111", "--cell", "0,0", "--to", "value \"\"", "work.txt", "work.txt"],
+        &["guest", "edit", "--rights", "1,1,1,1", "--cell", "0,0", "--to", "value \"\"", "work.txt", "work.txt"],
         &[
             "guest",
             "edit",
@@ -388,7 +388,7 @@ fn no_clobber_replaces_nothing() {
             [&["cut"][..], &table, more, &["--subset", whole, "guests.bin", out]].concat(),
             [&["merge"][..], &table, more, &["--part", whole, "guests.bin", out]].concat(),
             [&["convert"][..], &old, more, &["-", out]].concat(),
-            [&["guest", "read"][..], &table, more, &["--rights", "1111", "guests.bin", out]].concat(),
+            [&["guest", "read"][..], &table, more, &["--rights", "1,1,1,1", "guests.bin", out]].concat(),
         ] {
             let said = run(&folder, &line, &[1, 0, 0, 0, 1, 0, 0, 0, b'A']);
             assert_eq!(said.status, 73, "{line:?}: {}", said.err);
