@@ -284,13 +284,14 @@ pub fn store(
 // ---------------------------------------------------------------------------------------------------- the commands
 
 fn show(arguments: &Arguments, watch: &Watch) -> Result<u8, Failure> {
-    print_table(arguments, watch, || Stored::named(arguments, false, watch)?.decode())
+    print_table(arguments, watch, worksheet::write, || Stored::named(arguments, false, watch)?.decode())
 }
 
 /// Prints a table as a worksheet or as JSON.
 pub fn print_table(
     arguments: &Arguments,
     watch: &Watch,
+    sheet: fn(&Array, bool) -> String,
     array: impl FnOnce() -> Result<Array, Failure>,
 ) -> Result<u8, Failure> {
     if arguments.json && arguments.hex {
@@ -299,7 +300,7 @@ pub fn print_table(
     let array = array()?;
     match arguments.json {
         true => print(&json::write(&array), watch),
-        false => print(&worksheet::write(&array, arguments.hex), watch),
+        false => print(&sheet(&array, arguments.hex), watch),
     }
 }
 

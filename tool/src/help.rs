@@ -71,8 +71,9 @@ of it is printable and clear: no control, joining, invisible or right-to-left ch
 printed in hex; with --hex all are.
 'durpaxeta write' makes the same table out of the worksheet.
 
-With --json each cell is one line with a JSON object: "cell" and "masks" are lists, then comes "null" with the level, or
-"value" with "text" and "hex". The text of a value that is no UTF-8 is null.
+With --json each cell is one line with a JSON object. "is" comes first: "null", "empty" or "value". "cell" and "masks" are lists.
+Then a null has "null", its level; the others have "value" with "text" and "hex". Go by "is": the text of a value that is no UTF-8
+is null, too.
 
 Kind and shape may be left out where FILE.dpx says them ('durpaxeta help write').
 
@@ -245,8 +246,8 @@ durpaxeta table preview --cell CELL --to WHAT TABLE
 durpaxeta table pack --most NUMBER [--no-clobber] TABLE OUT
 
 A working table is a ragged table whose cells are edited: each has a start and a length in a store of so many bytes. Here it is a
-text, which says of each cell its masks, its start and its length, and then what bytes the store has; docs/FORMAT.md, part 15.
-A program calls the library instead, on its own memory.
+text, which says of each cell its masks, in words if it is null, empty or has a value, its start and its length, and then what bytes
+the store has; docs/FORMAT.md, part 15. Words that the masks and the length contradict are refused (65). A program calls the library instead, on its own memory.
 
   make   makes a working table of a stored one. Kind and shape may be left out where IN.dpx says them. The store must have room
          for the cells; what is more is room for other values.
@@ -284,7 +285,7 @@ nothing between, as in '00 01', are refused: that could be four cells, or two by
 count of cells, is refused with 4. The kind must have a depth of at least 1, as only a mask can hide a cell: another one is 17.
 
   show   prints what the guest sees of a stored table, as 'durpaxeta show' prints a table. A cell that the plane hides is null at
-         level 1, whatever it is.
+         level 1, whatever it is: so a null is hidden or not set, and the guest cannot tell which.
   read   stores what show prints, as a table of the same kind and shape. Tables that differ in hidden cells alone give the same file.
   edit   sets a cell of a working table, a text as 'durpaxeta table' has it, if the plane shows that cell; 18 is a cell that it hides.
          All else is as in 'durpaxeta table set'. No hidden cell gets other masks or another value; where it lies may change. 16 can

@@ -26,8 +26,20 @@ const TITLE: &str = "durpaxeta worksheet 1";
 
 /// The table as a worksheet; with values in hex only where that is asked for.
 pub fn write(array: &Array, hex: bool) -> String {
+    sheet(array, hex, "not set")
+}
+
+/// What a guest sees of a table; a cell that is hidden from it reads as null, too.
+pub fn write_seen(array: &Array, hex: bool) -> String {
+    sheet(array, hex, "hidden or not set")
+}
+
+fn sheet(array: &Array, hex: bool, null: &str) -> String {
     let mut text = format!("{TITLE}\nkind: {}\nshape: {}\n", array.kind, words::shape_text(&array.shape));
-    text.push_str("# cell | mask of each level | null: not set, and at which level; value \"\": set, with no bytes\n");
+    let _ = writeln!(
+        text,
+        "# cell | mask of each level | null: {null}, and at which level; value \"\": set, with no bytes"
+    );
     let fixed = !array.kind.is_ragged();
     let count = array.cell_count();
     let width = if count > 0 { words::coordinates(&array.shape, count - 1).len() } else { 0 };

@@ -227,6 +227,7 @@ fn lines_of_files() {
         ("table show", format!("{work}% | 01 01 | start 0, length 0\n")),
         ("table show", format!("{work}0 | % | start 0, length 0\n")),
         ("table show", format!("{work}0 | 01 01 | %\n")),
+        ("table show", format!("{}0 | 01 01 | % | start 0, length 0\n", work.replace("table 1", "table 2"))),
         ("table show", format!("{work}at 0 | \"%\n")),
         ("table show", format!("{work}at 0 | hex %\n")),
         ("table show", format!("{work}at % | \"\"\n")),

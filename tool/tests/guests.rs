@@ -48,17 +48,27 @@ fn shown_and_stored() {
     assert_eq!(cells(&other), second);
     assert!(!other.text().contains("0-3,8"));
     let all = good(&folder, &["guest", "show", "--rights", "1,1,1,1", "guests.bin"]);
-    assert_eq!(all.out, good(&folder, &["show", "guests.bin"]).out);
+    assert_eq!(cells(&all), cells(&good(&folder, &["show", "guests.bin"])));
 
     let kind = ["--kind", KIND, "--shape", "2x2"];
     let hex = good(&folder, &[&["guest", "show", "--hex", "--rights", FIRST][..], &kind, &["guests.bin"]].concat());
     assert_eq!(cells(&hex)[0], "0,0 | 01 01 | value hex 30 2D 33 2C 38");
     let json = good(&folder, &["guest", "show", "--json", "--rights", FIRST, "guests.bin"]);
-    assert_eq!(json.text().lines().nth(1), Some(r#"{"cell":[0,1],"masks":[0,0],"null":1}"#));
+    assert_eq!(json.text().lines().nth(1), Some(r#"{"is":"null","cell":[0,1],"masks":[0,0],"null":1}"#));
+    // What a guest is shown as null may be hidden; what anybody else is shown, is not set.
+    let head = |said: &Said| said.text().lines().nth(3).unwrap().to_string();
+    for more in [&[][..], &["--hex"]] {
+        let said = good(&folder, &[&["guest", "show", "--rights", FIRST][..], more, &["guests.bin"]].concat());
+        let says =
+            "# cell | mask of each level | null: hidden or not set, and at which level; value \"\": set, with no bytes";
+        assert_eq!(head(&said), says);
+    }
+    assert!(head(&good(&folder, &["show", "guests.bin"])).contains("| null: not set, and at which level;"));
+    assert_eq!(run(&folder, &["write", "-", "-"], &all.out).out, fs::read(folder.join("guests.bin")).unwrap());
 
     // What is stored is what is shown.
     good(&folder, &["guest", "read", "--rights", FIRST, "--describe", "guests.bin", "own.bin"]);
-    assert_eq!(good(&folder, &["show", "own.bin"]).out, shown.out);
+    assert_eq!(cells(&good(&folder, &["show", "own.bin"])), first);
     assert_eq!(run(&folder, &["write", "-", "-"], &shown.out).out, fs::read(folder.join("own.bin")).unwrap());
     let read = [&["guest", "read", "--rights", FIRST][..], &kind, &["-", "-"]].concat();
     let stored = run(&folder, &read, &fs::read(folder.join("guests.bin")).unwrap());
