@@ -23,7 +23,7 @@ A stored table does not say its kind or its shape. You do, or its description do
 
   --kind "depth 2, ragged, width 4, index at start"    cells of any length
   --kind "depth 2, packed masks, ragged, width 4, index at start"    the same, its stored masks a bit a cell
-  --kind "depth 1, fixed, size 2, little order"        cells of 2 bytes; or: big order
+  --kind "depth 1, fixed, size 2, little order"        cells of 2 bytes; or: big order, stored the last byte first
   --shape 2x3                                          2 rows of 3 cells
   --subset 0..2,1..3                                   rows 0 and 1, columns 1 and 2: the end is not included
 
@@ -68,7 +68,7 @@ pub const SHOW: &str = r#"durpaxeta show [--kind KIND --shape SHAPE] [--hex | --
 Prints a stored table as a worksheet: a line for each cell, with its coordinates, its mask byte of each level, and then
 'null at level N' or a value. A value of no bytes is printed as value "". A value is printed as text if it is UTF-8 and all
 of it is printable and clear: no control, joining, invisible or right-to-left characters. Others, and all fixed ones, are
-printed in hex; with --hex all are.
+printed in hex; with --hex all are. Bytes stand as in memory, in --json too: in big order value hex 01 02 is stored as 02 01.
 'durpaxeta write' makes the same table out of the worksheet.
 
 With --json each cell is one line with a JSON object. "is" comes first: "null", "empty" or "value". "cell" and "masks" are lists.
@@ -101,7 +101,8 @@ Makes a stored table from a worksheet. The worksheet says its kind and its shape
 A line is the coordinates, the mask byte of each level (00 is null, 01 is set, any other is refused with 4; at depth 0 a -),
 and what the cell is: null at level N, value "text" or value hex 0A 0B. Masks and words must agree. A kind with packed masks
 stores each mask byte as a bit. In a text \" \\ \n \t \r and \x0A stand for one byte; other characters for their bytes in
-UTF-8. Every cell stands in one line; their order is free. # begins a comment.
+UTF-8. Every cell stands in one line; their order is free. # begins a comment. Bytes of a value are typed as they lie in memory,
+the lowest address first: in little order they are stored so, in big order value hex 01 02 is stored as 02 01.
 
 With --describe OUT.dpx is written too, after OUT: a text with kind, shape, byte length and checksum of OUT. Where OUT.dpx is
 there already, --describe must be given, so that it stays right.

@@ -19,7 +19,7 @@
 use crate::failure::Failure;
 use crate::literal::{self, hex_byte, word};
 use crate::words;
-use durpaxeta::{Array, Cell, Kind, Mark, Refusal, Values};
+use durpaxeta::{Array, Cell, Kind, Mark, Order, Refusal, Values};
 use std::fmt::Write;
 
 const TITLE: &str = "durpaxeta worksheet 1";
@@ -40,6 +40,12 @@ fn sheet(array: &Array, hex: bool, null: &str) -> String {
         text,
         "# cell | mask of each level | null: {null}, and at which level; value \"\": set, with no bytes"
     );
+    if let Values::Fixed { size: 2.., order: Order::Big } = array.kind.values {
+        text.push_str(
+            "# big order: the bytes of a value stand here as in memory, and are stored the other way round, ",
+        );
+        text.push_str("the last one first\n");
+    }
     let fixed = !array.kind.is_ragged();
     let count = array.cell_count();
     let width = if count > 0 { words::coordinates(&array.shape, count - 1).len() } else { 0 };
@@ -289,7 +295,7 @@ impl Reader<'_> {
 #[cfg(test)]
 mod tests {
     use super::*;
-    use durpaxeta::{Order, Place, Width};
+    use durpaxeta::{Place, Width};
 
     fn sheet(kind: &str, shape: &str, cells: &[&str]) -> String {
         format!("{TITLE}\nkind: {kind}\nshape: {shape}\n{}\n", cells.join("\n"))

@@ -75,6 +75,33 @@ fn shown_and_written_again() {
     }
 }
 
+/// In big order the bytes of a value are stored the other way round; help, page and worksheet say so where somebody types them.
+#[test]
+fn big_order_is_said() {
+    let folder = folder("big");
+    let says = "# big order: the bytes of a value stand here as in memory, and are stored the other way round, the last one first\n";
+    for (kind, stored, said) in [
+        ("depth 0, fixed, size 2, big order", &[2, 1][..], true),
+        ("depth 0, fixed, size 2, little order", &[1, 2], false),
+        ("depth 0, fixed, size 1, big order", &[1], false),
+        ("depth 0, ragged, width 4, index at start", &[8, 0, 0, 0, 0, 0, 0, 0, 0, 0, 0, 0, 2, 0, 0, 0, 1, 2], false),
+    ] {
+        let value = if stored.len() == 1 { "01" } else { "01 02" };
+        let sheet = format!("durpaxeta worksheet 1\nkind: {kind}\nshape: 1\n0 | - | value hex {value}\n");
+        let written = run(&folder, &["write", "-", "-"], sheet.as_bytes());
+        assert_eq!((written.status, &written.out[..]), (0, stored), "{kind}");
+        let shown = run(&folder, &["show", "--kind", kind, "--shape", "1", "-"], stored);
+        assert!(shown.text().ends_with(&format!("\n0 | - | value hex {value}\n")), "{}", shown.text());
+        assert_eq!(shown.text().contains(says), said, "{}", shown.text());
+        assert_eq!(run(&folder, &["write", "-", "-"], &shown.out).out, stored);
+    }
+    for page in ["show", "write"] {
+        let help = good(&folder, &["help", page]);
+        assert!(help.text().replace('\n', " ").contains("in big order value hex 01 02 is stored as 02 01"), "{page}");
+    }
+    prints_what_the_page_says("1", 3);
+}
+
 #[test]
 fn cut_and_merged() {
     let folder = folder("merge");
@@ -443,7 +470,7 @@ fn the_largest_tables() {
         stored = [le(&[65_536, stored.len() as u64], 8, &masks), stored].concat();
     }
     let shown = run(&folder, &["show", "--kind", kind, "--shape", "256x256", "-"], &stored);
-    assert_eq!((shown.status, shown.text().lines().count()), (0, 65_536 + 4));
+    assert_eq!((shown.status, shown.text().lines().count()), (0, 65_536 + 5));
     let again = run(&folder, &["write", "-", "-"], &shown.out);
     assert!(again.status == 0 && again.out == stored);
 
