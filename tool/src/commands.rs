@@ -216,7 +216,7 @@ fn verdict(status: u8, text: &str, watch: &Watch) -> Result<u8, Failure> {
     match (status, output::print(text, watch)) {
         (0, Err(failure)) => Err(failure),
         (_, Err(failure)) => {
-            output::tell(&failure.to_string());
+            output::tell_of(&failure);
             Ok(status)
         }
         (_, Ok(())) => Ok(status),

@@ -20,7 +20,8 @@ use durpaxeta::Kind;
 use std::ffi::{OsStr, OsString};
 use std::fs;
 
-const TITLE: &str = "durpaxeta description 1";
+/// The version of this form.
+const VERSION: u64 = 1;
 
 /// What a stored table is.
 #[derive(Clone, Debug, PartialEq, Eq)]
@@ -68,7 +69,10 @@ impl Description {
 
     pub fn text(&self) -> String {
         let shape = words::shape_text(&self.shape);
-        format!("{TITLE}\nkind: {}\nshape: {shape}\nbytes: {}\ncrc-32c: {:08X}\n", self.kind, self.bytes, self.checksum)
+        format!(
+            "durpaxeta description {VERSION}\nkind: {}\nshape: {shape}\nbytes: {}\ncrc-32c: {:08X}\n",
+            self.kind, self.bytes, self.checksum
+        )
     }
 
     fn read(name: &str, bytes: &[u8]) -> Result<Description, Failure> {
@@ -79,9 +83,8 @@ impl Description {
             .enumerate()
             .map(|(number, line)| (number + 1, line.trim()))
             .filter(|(_, line)| !line.is_empty() && !line.starts_with('#'));
-        if lines.next().map(|(_, line)| line) != Some(TITLE) {
-            return Err(wrong(format!("the first line of a description is \"{TITLE}\"; here it is something else")));
-        }
+        let title = lines.next().map_or("", |(_, line)| line);
+        words::version(title, "description", VERSION).map_err(wrong)?;
         let (mut kind, mut shape, mut length, mut checksum) = (None, None, None, None);
         for (number, line) in lines {
             let here = |what: String| wrong(format!("line {number}: {what}"));

@@ -53,7 +53,8 @@ Exit status:
   68, 69    a file of another length (68) or checksum (69) than its description says
   71        same: two valid files that are not the same table
   73        --no-clobber: the output is there already
-  74        an error of the operating system; so is an output whose reader left, or that was closed
+  74        an error of the operating system; so is an output that was closed
+  141       standard output's reader left before all was written, as in '.. | head'; nothing is told
 
 Examples:
   durpaxeta example > guests.txt

@@ -25,9 +25,8 @@ use crate::words;
 use durpaxeta::{read_number, Kind, Mark, Table, MAX_STORE};
 use std::fmt::Write;
 
-const TITLE: &str = "durpaxeta working table 2";
-/// Its lines of cells have no words.
-const FIRST: &str = "durpaxeta working table 1";
+/// The version of this form. Before it the lines of cells had no words.
+const VERSION: u64 = 2;
 
 /// A working table with the shape that its cells are named by.
 #[derive(Debug, PartialEq)]
@@ -40,7 +39,10 @@ pub struct Listing {
 pub fn write(listing: &Listing) -> String {
     let Listing { shape, table } = listing;
     let (kind, count, size) = (table.kind, table.cell_count(), table.store.len());
-    let mut text = format!("{TITLE}\nkind: {kind}\nshape: {}\nstore: {size}\n", words::shape_text(shape));
+    let mut text = format!(
+        "durpaxeta working table {VERSION}\nkind: {kind}\nshape: {}\nstore: {size}\n",
+        words::shape_text(shape)
+    );
     text.push_str("# cell | mask of each level | null: not set, and at which level; empty: set, with no bytes | ");
     text.push_str("where its bytes lie in the store\n");
     let width = if count > 0 { words::coordinates(shape, count - 1).len() } else { 0 };
@@ -97,11 +99,9 @@ pub fn read(name: &str, bytes: &[u8]) -> Result<Listing, Failure> {
         }
         if titled {
             reader.line(line)?;
-        } else if [FIRST, TITLE].contains(&line) {
-            (titled, reader.words) = (true, line == TITLE);
         } else {
-            let what = format!("the first line of a working table is \"{TITLE}\"; this one is something else");
-            return Err(reader.wrong(what));
+            let version = words::version(line, "working table", VERSION).map_err(|what| reader.wrong(what))?;
+            (titled, reader.words) = (true, version == VERSION);
         }
     }
     reader.listing()

@@ -77,7 +77,10 @@ impl Output {
     }
 
     fn failed(&self, error: &io::Error) -> Failure {
-        Failure::system("write", &self.name, error)
+        match (&self.way, error.kind()) {
+            (Way::Standard, ErrorKind::BrokenPipe) => Failure::Left,
+            _ => Failure::system("write", &self.name, error),
+        }
     }
 }
 
@@ -241,6 +244,13 @@ impl Temporary {
         fs::rename(own, path).map_err(|error| output.failed(&error))?;
         self.0 = None;
         Ok(())
+    }
+}
+
+/// Tells what went wrong; where only the reader of standard output has left, nothing did.
+pub fn tell_of(failure: &Failure) {
+    if !matches!(failure, Failure::Left) {
+        tell(&failure.to_string());
     }
 }
 

@@ -22,7 +22,8 @@ use crate::words;
 use durpaxeta::{Array, Cell, Kind, Mark, Order, Refusal, Values};
 use std::fmt::Write;
 
-const TITLE: &str = "durpaxeta worksheet 1";
+/// The version of this form.
+const VERSION: u64 = 1;
 
 /// The table as a worksheet; with values in hex only where that is asked for.
 pub fn write(array: &Array, hex: bool) -> String {
@@ -35,7 +36,8 @@ pub fn write_seen(array: &Array, hex: bool) -> String {
 }
 
 fn sheet(array: &Array, hex: bool, null: &str) -> String {
-    let mut text = format!("{TITLE}\nkind: {}\nshape: {}\n", array.kind, words::shape_text(&array.shape));
+    let (kind, shape) = (array.kind, words::shape_text(&array.shape));
+    let mut text = format!("durpaxeta worksheet {VERSION}\nkind: {kind}\nshape: {shape}\n");
     let _ = writeln!(
         text,
         "# cell | mask of each level | null: {null}, and at which level; value \"\": set, with no bytes"
@@ -83,12 +85,9 @@ pub fn read(name: &str, bytes: &[u8]) -> Result<Array, Failure> {
         }
         if titled {
             reader.line(line)?;
-        } else if line == TITLE {
-            titled = true;
         } else {
-            return Err(
-                reader.wrong(format!("the first line of a worksheet is \"{TITLE}\"; this one is something else"))
-            );
+            words::version(line, "worksheet", VERSION).map_err(|what| reader.wrong(what))?;
+            titled = true;
         }
     }
     if !titled {
@@ -305,6 +304,7 @@ mod tests {
         read("sheet", text.as_bytes()).unwrap_err().status()
     }
 
+    const TITLE: &str = "durpaxeta worksheet 1";
     const RAGGED: &str = "depth 2, ragged, width 4, index at start";
     const FLAT: &str = "depth 0, ragged, width 8, index at end";
     const FIXED: &str = "depth 1, fixed, size 2, little order";

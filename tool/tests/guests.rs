@@ -133,7 +133,7 @@ fn edited() {
         (hidden.status, hidden.err.as_str()),
         (
             18,
-            "durpaxeta: work.txt: refusal 18: the rights plane hides that cell from the guest.\n  --rights has 0 for cell 0,1.\n  \
+            "durpaxeta: work.txt: refusal 18: --rights has 0 for cell 0,1.\n  18 means: the rights plane hides that cell from the guest.\n  \
              Caused by whoever sets the cell.\n"
         )
     );
@@ -163,12 +163,12 @@ fn what_is_refused() {
         (
             with(vec!["show", "--rights", "1"], &flat),
             17,
-            "flat.bin: refusal 17: the kind has no masks, and only a mask",
+            "flat.bin: refusal 17: The kind is depth 0, ragged, width 4, index at start.\n  17 means: the kind has no masks, and only",
         ),
         (
             with(vec!["show", "--rights", "1,0,1"], &byte),
             17,
-            "The kind is depth 0, fixed, size 1, little order.\n  Caused by whoever",
+            "The kind is depth 0, fixed, size 1, little order.\n  17 means: ",
         ),
         (with(edit("1", "0"), &["flat.txt", "no"]), 17, "flat.txt: refusal 17: "),
         (with(edit("1", "0"), &["flat.txt", "no"]), 17, "The kind is depth 0, ragged, width 4, index at start.\n"),

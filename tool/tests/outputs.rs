@@ -223,42 +223,88 @@ fn an_ignored_signal_stays_ignored() {
 
 // ----------------------------------------------------------------------------------------------- readers that left
 
-/// Runs a line whose reader has left before anything was written. A child that another test is starting may hold the reader's end
-/// for a moment yet: then what is written is delivered and nothing is said, and the line runs again.
+/// Runs a line whose reader has left before anything was written; answers its status and what it told. A child that another test is
+/// starting may hold the reader's end for a moment yet: then what is written is delivered, with status 0, and the line runs again.
 fn unread(folder: &Path, arguments: &[&str], input: &[u8]) -> (Option<i32>, String) {
     for _ in 0..100 {
         let mut child = piped(folder, arguments);
         drop(child.stdout.take());
         child.stdin.take().unwrap().write_all(input).unwrap();
         let out = child.wait_with_output().unwrap();
-        if !out.stderr.is_empty() {
+        if out.status.code() != Some(0) {
             return (out.status.code(), told(out.stderr));
         }
     }
     panic!("what was written always found a reader");
 }
 
+/// As any tool before `head`: what is not read is not written, and nothing is told; the status is that of a command that SIGPIPE ended.
+#[test]
+fn a_reader_that_leaves_is_no_error() {
+    let folder = prepared("head", 10);
+    good(&folder, &["write", "--describe", "guests.txt", "described.bin"]);
+    good(&folder, &["generate", "--kind", KIND, "--shape", "256x256", "--start", "7", "--describe", "load.bin"]);
+    good(&folder, &["table", "make", "--store", "99", "described.bin", "work.txt"]);
+    fs::write(folder.join("plane.txt"), "1\n".repeat(65_536)).unwrap();
+    for (line, first) in [
+        ("show load.bin", "durpaxeta worksheet 1\n"),
+        ("show --json load.bin", "{\"is\":\"null\",\"cell\":[0,0],\"masks\":[0,0],\"null\":1}\n"),
+        ("guest show --rights-file plane.txt load.bin", "durpaxeta worksheet 1\n"),
+        ("explain load.bin", "load.bin: depth 2, ragged, width 4, index at start; 256x256; 407884 bytes\n"),
+    ] {
+        let said = sh(&folder, &format!("{{ durpaxeta {line}; echo status $? >&2; }} | head -n 1"));
+        let status = if line.starts_with("explain") { 0 } else { 141 };
+        assert_eq!((said.text(), &said.err), (first, &format!("status {status}\n")), "{line}");
+    }
+    for words in [
+        &["show", "described.bin"][..],
+        &["show", "--json", "described.bin"],
+        &["check", "described.bin"],
+        &["same", "described.bin", "described.bin"],
+        &["explain", "described.bin"],
+        &["write", "guests.txt", "-"],
+        &["cut", "--subset", "0..1,0..2", "described.bin", "-"],
+        &["merge", "--shape", "2x2", "--part", "0..2,0..2", "described.bin", "-"],
+        &["generate", "--kind", KIND, "--shape", "2x2", "--start", "1", "-"],
+        &["table", "make", "--store", "9", "described.bin", "-"],
+        &["table", "show", "work.txt"],
+        &["table", "set", "--cell", "0,0", "--to", "null at level 1", "work.txt", "/dev/stdout"],
+        &["table", "preview", "--cell", "0,0", "--to", "null at level 1", "work.txt"],
+        &["table", "pack", "--most", "1", "work.txt", "-"],
+        &["guest", "show", "--rights", "1,1,1,1", "described.bin"],
+        &["guest", "read", "--rights", "1,1,1,1", "described.bin", "-"],
+        &["guest", "edit", "--rights", "1,1,1,1", "--cell", "0,0", "--to", "null at level 1", "work.txt", "-"],
+        &["example"],
+        &["help"],
+        &["help", "show"],
+        &["--version"],
+    ] {
+        assert_eq!(unread(&folder, words, b""), (Some(141), String::new()), "{words:?}");
+    }
+    // The reader of a named pipe is another matter: OUT was not written.
+    let said = sh(&folder, "mkfifo pipe; head -c 1 pipe > first & durpaxeta cut --subset 0..256,0..256 load.bin pipe");
+    assert_eq!((said.status, said.err.as_str()), (74, "durpaxeta: cannot write pipe: whoever reads it has left\n"));
+}
+
 #[test]
 fn a_refusal_keeps_its_status_when_the_reader_leaves() {
     let folder = prepared("left", 10);
     let stored = fs::read(folder.join("guests.bin")).unwrap();
-    let told = "durpaxeta: cannot write standard output: whoever reads it has left\n".to_string();
+    let nothing = String::new();
     for command in ["check", "explain"] {
         let line = [command, "--kind", KIND, "--shape", "2x2", "-"];
         for _ in 0..10 {
-            assert_eq!(unread(&folder, &line, &stored[..63]), (Some(8), told.clone()));
+            assert_eq!(unread(&folder, &line, &stored[..63]), (Some(8), nothing.clone()));
         }
-        assert_eq!(unread(&folder, &line, &stored), (Some(74), told.clone()), "what is valid was not delivered");
+        assert_eq!(unread(&folder, &line, &stored), (Some(141), nothing.clone()), "what is valid was not delivered");
     }
     let same = ["same", "--kind", KIND, "--shape", "2x2", "guests.bin", "-"];
     let other = [&stored[..63], b"9"].concat();
-    for (input, status) in [(&stored[..63], 8), (&other, 71), (&stored, 74)] {
-        assert_eq!(unread(&folder, &same, input), (Some(status), told.clone()));
+    for (input, status) in [(&stored[..63], 8), (&other, 71), (&stored, 141)] {
+        assert_eq!(unread(&folder, &same, input), (Some(status), nothing.clone()));
     }
-    assert_eq!(unread(&folder, &["show", "--kind", KIND, "--shape", "2x2", "-"], &stored), (Some(74), told.clone()));
-    assert_eq!(unread(&folder, &["show", "--kind", KIND, "--shape", "2x2", "-"], &stored[..63]).0, Some(8));
-    let cut = ["cut", "--kind", KIND, "--shape", "2x2", "--subset", "0..1,0..2", "-", "-"];
-    assert_eq!(unread(&folder, &cut, &stored), (Some(74), told));
+    let (status, told) = unread(&folder, &["show", "--kind", KIND, "--shape", "2x2", "-"], &stored[..63]);
+    assert!(status == Some(8) && told.starts_with("durpaxeta: standard input: refusal 8: "), "{told}");
 }
 
 #[test]
