@@ -255,6 +255,7 @@ pub fn store(
     arguments: &Arguments,
     watch: &Watch,
 ) -> Result<(), Failure> {
+    watch.doing("encoding the table");
     let table = Output::new(path, arguments.no_clobber, inputs)?;
     let beside = describe::beside(path);
     if arguments.describe && !table.is_file() {
@@ -298,10 +299,12 @@ pub fn print_table(
         return Err(Failure::usage("--json shows each value as text and in hex: give --json or --hex, not both"));
     }
     let array = array()?;
-    match arguments.json {
-        true => print(&json::write(&array), watch),
-        false => print(&sheet(&array, arguments.hex), watch),
+    if arguments.json {
+        watch.doing("making JSON of the cells");
+        return print(&json::write(&array), watch);
     }
+    watch.doing("making a worksheet of the cells");
+    print(&sheet(&array, arguments.hex), watch)
 }
 
 fn write(arguments: &Arguments, watch: &Watch) -> Result<u8, Failure> {
@@ -368,7 +371,7 @@ fn merge_parts(arguments: &Arguments, watch: &Watch) -> Result<u8, Failure> {
         parts.push((stored, array));
     }
     let kind = parts[0].0.kind;
-    watch.step("merging", Some(parts.len() as u64), "parts");
+    watch.doing(format!("merging {} parts", parts.len()));
     let chunks: Vec<Chunk<'_>> =
         subsets.iter().zip(&parts).map(|(subset, (_, array))| Chunk::new(subset, array)).collect();
     let whole = merge(kind, &shape, &chunks).map_err(|refusal| Failure::Refused {
@@ -459,6 +462,7 @@ fn make_load(arguments: &Arguments, watch: &Watch) -> Result<u8, Failure> {
     let kind = given_kind(arguments)?.ok_or_else(|| missing_kind(""))?;
     let shape = given_shape(arguments)?.ok_or_else(|| missing_shape(""))?;
     let start = arguments.start.as_ref().ok_or_else(|| Failure::usage("--start is missing; for example --start 7"))?;
+    watch.doing("generating the table");
     let load = generate(kind, &shape, words::start(start)?).map_err(|refusal| Failure::Refused {
         refusal,
         subject: "generate".into(),

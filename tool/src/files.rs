@@ -88,6 +88,7 @@ pub fn read(path: &OsStr, watch: &Watch) -> Result<Input, Failure> {
     }
     let total = about.is_file().then_some(about.len());
     let bytes = read_all(&mut file, &name, total, watch)?;
+    watch.doing(format!("decoding {name}"));
     Ok(Input { name, bytes, identity: identity(&about) })
 }
 

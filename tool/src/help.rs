@@ -29,6 +29,7 @@ A stored table does not say its kind or its shape. You do, or its description do
 
 Depth is the number of mask levels. Level 1 is the outermost. Bytes are counted from 0.
 A file name of - is standard input or standard output. Inputs of over 268,435,456 bytes are not read.
+What takes over a second is told in a line on standard error, where that is a terminal.
 In a message the name of a file, a word or a line stands on one line: line ends, controls, invisible and right-to-left
 characters and bytes that are no UTF-8 are told as \n, \r, \t or \x1B.
 

@@ -125,7 +125,10 @@ pub fn write(outputs: &[(Output, &[u8])], watch: &Watch) -> Result<(), Failure> 
     for (output, bytes) in outputs {
         watch.step(format!("writing {}", output.name), Some(bytes.len() as u64), "bytes");
         match &output.way {
-            Way::Standard => stream(output, standard(), bytes, watch)?,
+            Way::Standard => {
+                watch.hush();
+                stream(output, standard(), bytes, watch)?;
+            }
             Way::Stream(path) => stream(output, OpenOptions::new().append(true).open(path), bytes, watch)?,
             Way::File { path, there } => {
                 let held = held.get_or_insert_with(system::hold);
@@ -141,6 +144,7 @@ pub fn write(outputs: &[(Output, &[u8])], watch: &Watch) -> Result<(), Failure> 
             Failure::system("sync the folder of", &name, &error)
         })?;
     }
+    watch.hush();
     Ok(())
 }
 
@@ -201,6 +205,7 @@ fn store(
         file.set_permissions(Permissions::from_mode(about.mode() & 0o7777)).map_err(failed)?;
     }
     pieces(output, &mut file, bytes, watch, || held.arrived())?;
+    watch.doing(format!("syncing {}", output.name));
     sync(&file).map_err(failed)?;
     if held.arrived() {
         return Err(Failure::plain(SYSTEM, format!("cannot write {}: stopped by a signal", output.name)));

@@ -4,10 +4,7 @@ mod common;
 
 use common::*;
 use std::fs;
-use std::io::Write;
 use std::path::Path;
-use std::thread;
-use std::time::Duration;
 
 #[test]
 fn the_affinity_table() {
@@ -588,21 +585,6 @@ fn the_largest_tables() {
         assert_eq!(written.status, status, "{}", written.err);
         assert_eq!(written.out == stored, status == 0);
     }
-}
-
-#[test]
-fn progress_after_a_second() {
-    let folder = folder("progress");
-    let mut child = piped(&folder, &["check", "--kind", "depth 0, fixed, size 1, little order", "--shape", "4", "-"]);
-    let mut stdin = child.stdin.take().unwrap();
-    stdin.write_all(&[1, 2, 3]).unwrap();
-    thread::sleep(Duration::from_millis(1700));
-    stdin.write_all(&[4]).unwrap();
-    drop(stdin);
-    let out = child.wait_with_output().unwrap();
-    assert_eq!(out.status.code(), Some(0));
-    let err = String::from_utf8(out.stderr).unwrap();
-    assert!(err.contains("durpaxeta: reading standard input: 3 bytes so far"), "{err}");
 }
 
 /// Every example of every help page, line by line, in an empty folder.

@@ -25,16 +25,6 @@ impl Said {
     }
 }
 
-/// What was told on standard error, without progress: on a busy disk a sync can take over a second, which is told.
-pub fn told(err: Vec<u8>) -> String {
-    let err = String::from_utf8(err).unwrap();
-    let progress = |line: &&str| {
-        ["durpaxeta: reading ", "durpaxeta: writing "].iter().any(|begin| line.starts_with(begin))
-            && [" bytes\n", " so far\n"].iter().any(|end| line.ends_with(end))
-    };
-    err.split_inclusive('\n').filter(|line| !progress(line)).collect()
-}
-
 /// A directory of its own for each test.
 pub fn folder(name: &str) -> PathBuf {
     let folder = Path::new(env!("CARGO_TARGET_TMPDIR")).join(name);
@@ -69,9 +59,9 @@ pub fn run(folder: &Path, arguments: &[&str], input: &[u8]) -> Said {
         out
     });
     let errors = thread::spawn(move || {
-        let mut err = Vec::new();
-        stderr.read_to_end(&mut err).unwrap();
-        told(err)
+        let mut err = String::new();
+        stderr.read_to_string(&mut err).unwrap();
+        err
     });
     let deadline = Instant::now() + Duration::from_secs(60);
     let status = loop {
@@ -120,7 +110,7 @@ pub fn sh(folder: &Path, line: &str) -> Said {
     Said {
         status: out.status.code().unwrap_or_else(|| panic!("{line} was ended by a signal")),
         out: out.stdout,
-        err: told(out.stderr),
+        err: String::from_utf8(out.stderr).unwrap(),
     }
 }
 
@@ -154,7 +144,7 @@ pub fn prints_what_the_page_says(number: &str, least: usize) {
     for (at, &begin) in begins.iter().enumerate() {
         let end = begins.get(at + 1).copied().unwrap_or(lines.len());
         let command = format!("{{ {}; }} 2>&1", &lines[begin][2..]);
-        let said = told(sh(&folder, &command).out);
-        assert_eq!(said.lines().collect::<Vec<_>>(), lines[begin + 1..end], "{command}");
+        let said = sh(&folder, &command);
+        assert_eq!(said.text().lines().collect::<Vec<_>>(), lines[begin + 1..end], "{command}");
     }
 }
