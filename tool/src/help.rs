@@ -249,8 +249,9 @@ durpaxeta table preview --cell CELL --to WHAT TABLE
 durpaxeta table pack --most NUMBER [--no-clobber] TABLE OUT
 
 A working table is a ragged table whose cells are edited: each has a start and a length in a store of so many bytes. Here it is a
-text, which says of each cell its masks, in words if it is null, empty or has a value, its start and its length, and then what bytes
-the store has; docs/FORMAT.md, part 15. Words that the masks and the length contradict are refused (65). A program calls the library instead, on its own memory.
+text. It says of each cell its masks, in words whether it is null, empty or has a value, its start and its length, and then what
+bytes the store has; docs/FORMAT.md, part 15. Words that masks and length contradict are refused (65). A program calls the library
+instead, on its own memory.
 
   make   makes a working table of a stored one. Kind and shape may be left out where IN.dpx says them. The store must have room
          for the cells; what is more is room for other values.

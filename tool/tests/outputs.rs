@@ -232,7 +232,7 @@ fn unread(folder: &Path, arguments: &[&str], input: &[u8]) -> (Option<i32>, Stri
         child.stdin.take().unwrap().write_all(input).unwrap();
         let out = child.wait_with_output().unwrap();
         if out.status.code() != Some(0) {
-            return (out.status.code(), String::from_utf8(out.stderr).unwrap());
+            return (out.status.code(), told(out.stderr));
         }
     }
     panic!("what was written always found a reader");

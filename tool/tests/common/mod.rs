@@ -25,6 +25,11 @@ impl Said {
     }
 }
 
+/// What was told on standard error.
+pub fn told(err: Vec<u8>) -> String {
+    String::from_utf8(err).unwrap()
+}
+
 /// A directory of its own for each test.
 pub fn folder(name: &str) -> PathBuf {
     let folder = Path::new(env!("CARGO_TARGET_TMPDIR")).join(name);
@@ -59,9 +64,9 @@ pub fn run(folder: &Path, arguments: &[&str], input: &[u8]) -> Said {
         out
     });
     let errors = thread::spawn(move || {
-        let mut err = String::new();
-        stderr.read_to_string(&mut err).unwrap();
-        err
+        let mut err = Vec::new();
+        stderr.read_to_end(&mut err).unwrap();
+        told(err)
     });
     let deadline = Instant::now() + Duration::from_secs(60);
     let status = loop {
@@ -110,7 +115,7 @@ pub fn sh(folder: &Path, line: &str) -> Said {
     Said {
         status: out.status.code().unwrap_or_else(|| panic!("{line} was ended by a signal")),
         out: out.stdout,
-        err: String::from_utf8(out.stderr).unwrap(),
+        err: told(out.stderr),
     }
 }
 
