@@ -239,7 +239,7 @@ fn subset_of(text: &str, shape: &[u64], option: &str) -> Result<(Subset, usize),
 fn not_described(table: &Output, beside: &OsStr, advice: &str) -> Result<(), Failure> {
     match table.is_file() && fs::symlink_metadata(beside).is_ok() {
         true => {
-            let beside = beside.to_string_lossy();
+            let beside = files::name(beside, "");
             Err(Failure::usage(format!("{beside} is there and would no longer be right: {advice}")))
         }
         false => Ok(()),
@@ -270,7 +270,7 @@ pub fn store(
     };
     if let Some(description) = &description {
         if !description.is_file() || (table.identity().is_some() && table.identity() == description.identity()) {
-            let beside = beside.to_string_lossy();
+            let beside = files::name(&beside, "");
             return Err(Failure::usage(format!("{beside} is no file of its own, so it cannot be the description")));
         }
     }

@@ -197,6 +197,14 @@ fn a_name_as_it_is() {
         fs::remove_file(folder.join(name)).unwrap();
         let (status, text) = said(&folder, &line("check --kind KIND --shape 2x2 %", name));
         assert_eq!((status, text), (74, format!("durpaxeta: cannot open {told}: No such file or directory\n")));
+        // A description of that name, where OUT is not described anew.
+        let beside = OsString::from_vec([name.as_bytes(), b".dpx"].concat());
+        fs::write(folder.join(&beside), "").unwrap();
+        let (status, text) = said(&folder, &line("write guests.txt %", name));
+        assert!(status == 64 && text.starts_with(&format!("durpaxeta: {told}.dpx is there and ")), "{text}");
+        fs::remove_file(folder.join(&beside)).unwrap();
+        let (status, text) = said(&folder, &line("explain %", name));
+        assert!(status == 64 && text.contains(&format!("and there is no {told}.dpx; for example")), "{text}");
     }
 }
 
