@@ -1,7 +1,9 @@
 //! The command line.
 
 use crate::failure::Failure;
+use crate::files;
 use std::ffi::OsString;
+use std::os::unix::ffi::OsStrExt;
 
 /// What a command was given.
 #[derive(Debug, Default)]
@@ -84,7 +86,7 @@ pub fn parse(command: &str, options: &[&str], files: &[&str], words: Vec<OsStrin
         }
         let value = match attached {
             Some(value) => OsString::from(value),
-            None => words.next().ok_or_else(|| Failure::usage(format!("{option} has no value behind it")))?,
+            None => behind(&mut words, &format!("{option} has no value"))?,
         };
         if option == "--rights-file" {
             once(&mut arguments.rights_file, option, value)?;
@@ -93,7 +95,7 @@ pub fn parse(command: &str, options: &[&str], files: &[&str], words: Vec<OsStrin
         let value = readable(option, value)?;
         match option {
             "--part" => {
-                let file = words.next().ok_or_else(|| Failure::usage("--part takes a subset and a file"))?;
+                let file = behind(&mut words, &format!("--part {value} has no file"))?;
                 arguments.parts.push((value, file));
             }
             "--kind" => once(&mut arguments.kind, option, value)?,
@@ -117,6 +119,15 @@ pub fn parse(command: &str, options: &[&str], files: &[&str], words: Vec<OsStrin
         )));
     }
     Ok(arguments)
+}
+
+/// The word behind an option. Another option is none, so that the one that lacks its value is told.
+fn behind(words: &mut impl Iterator<Item = OsString>, lacks: &str) -> Result<OsString, Failure> {
+    let word = words.next().ok_or_else(|| Failure::usage(format!("{lacks} behind it")))?;
+    match word.as_bytes().starts_with(b"--") || word == "-h" {
+        true => Err(Failure::usage(format!("{lacks} behind it: {} is an option", files::name(&word, "")))),
+        false => Ok(word),
+    }
 }
 
 fn readable(option: &str, value: OsString) -> Result<String, Failure> {
@@ -165,6 +176,10 @@ mod tests {
     fn wrong_ones() {
         for words in [
             &["--kind"][..],
+            &["--kind", "--shape", "2x3", "out"],
+            &["--rights-file", "--kind", "a", "out"],
+            &["--part", "--hex", "b", "out"],
+            &["--part", "0..1", "--hex", "out"],
             &["--kind", "a", "--kind", "b", "out"],
             &["--rights-file"],
             &["--rights-file", "a", "--rights-file", "b", "out"],

@@ -11,12 +11,13 @@ use crate::stored::{
     cells, given_kind, given_shape, missing_kind, missing_shape, stopped, undescribed, Given, Interleaved, Stored,
 };
 use crate::watch::Watch;
-use crate::{explain, guests, help, json, tables, words, worksheet};
+use crate::{explain, guests, help, json, literal, tables, words, worksheet};
 use durpaxeta::{
     decode, encode, encode_interleaved, extract, generate, merge, partial_decode, subset_cells, Array, Cell, Chunk,
     Kind, Refusal, Subset, Values,
 };
 use std::ffi::{OsStr, OsString};
+use std::os::unix::ffi::OsStrExt;
 
 struct Command {
     name: &'static str,
@@ -149,10 +150,11 @@ pub fn run(words: Vec<OsString>) -> Result<u8, Failure> {
     let watch = Watch::start();
     let mut words = words.into_iter();
     let first = words.next().ok_or_else(|| Failure::usage("no command is given"))?;
-    let text = first.to_string_lossy().into_owned();
+    let clear = |word: OsString| literal::clear(word.as_bytes());
+    let text = clear(first);
     let page = match text.as_str() {
         "--help" | "-h" | "help" => match words.next() {
-            Some(name) => Some(page(&name.to_string_lossy())?),
+            Some(name) => Some(page(&clear(name))?),
             None => Some(help::GENERAL),
         },
         "--version" | "-V" => Some(help::VERSION),
@@ -160,12 +162,12 @@ pub fn run(words: Vec<OsString>) -> Result<u8, Failure> {
     };
     if let Some(page) = page {
         return match words.next() {
-            Some(more) => Err(Failure::usage(format!("{text} does not take \"{}\"", more.to_string_lossy()))),
+            Some(more) => Err(Failure::usage(format!("{text} does not take \"{}\"", clear(more)))),
             None => print(page, &watch),
         };
     }
     let command = match COMMANDS.iter().find(|command| command.page() == text && command.name != text) {
-        Some(one) => match words.next().map(|word| word.to_string_lossy().into_owned()).as_deref() {
+        Some(one) => match words.next().map(clear).as_deref() {
             Some("--help" | "-h") => return print(one.help, &watch),
             second => command(&format!("{text} {}", second.unwrap_or_default()))
                 .map_err(|_| Failure::usage(followed(&text)).of_command(one.page()))?,
@@ -216,7 +218,7 @@ fn verdict(status: u8, text: &str, watch: &Watch) -> Result<u8, Failure> {
     match (status, output::print(text, watch)) {
         (0, Err(failure)) => Err(failure),
         (_, Err(failure)) => {
-            output::tell(&failure.to_string());
+            output::tell_of(&failure);
             Ok(status)
         }
         (_, Ok(())) => Ok(status),
@@ -233,6 +235,7 @@ pub fn store(
     arguments: &Arguments,
     watch: &Watch,
 ) -> Result<(), Failure> {
+    watch.doing("encoding the table");
     let target = match arguments.describe {
         true => Target::described(path, arguments.no_clobber, inputs)?,
         false => {
@@ -249,23 +252,26 @@ pub fn store(
 // ---------------------------------------------------------------------------------------------------- the commands
 
 fn show(arguments: &Arguments, watch: &Watch) -> Result<u8, Failure> {
-    print_table(arguments, watch, || Stored::named(arguments, false, watch)?.decode())
+    print_table(arguments, watch, worksheet::write, || Stored::named(arguments, false, watch)?.decode())
 }
 
 /// Prints a table as a worksheet or as JSON.
 pub fn print_table(
     arguments: &Arguments,
     watch: &Watch,
+    sheet: fn(&Array, bool) -> String,
     array: impl FnOnce() -> Result<Array, Failure>,
 ) -> Result<u8, Failure> {
     if arguments.json && arguments.hex {
         return Err(Failure::usage("--json shows each value as text and in hex: give --json or --hex, not both"));
     }
     let array = array()?;
-    match arguments.json {
-        true => print(&json::write(&array), watch),
-        false => print(&worksheet::write(&array, arguments.hex), watch),
+    if arguments.json {
+        watch.doing("making JSON of the cells");
+        return print(&json::write(&array), watch);
     }
+    watch.doing("making a worksheet of the cells");
+    print(&sheet(&array, arguments.hex), watch)
 }
 
 fn write(arguments: &Arguments, watch: &Watch) -> Result<u8, Failure> {
@@ -355,7 +361,7 @@ fn merge_parts(arguments: &Arguments, watch: &Watch) -> Result<u8, Failure> {
         parts.push(Merged { subset, stored, array });
     }
     let kind = parts[0].stored.kind;
-    watch.step("merging", Some(parts.len() as u64), "parts");
+    watch.doing(format!("merging {} parts", parts.len()));
     let chunks: Vec<Chunk<'_>> = parts.iter().map(|part| Chunk::new(&part.subset, &part.array)).collect();
     let whole = merge(kind, &shape, &chunks).map_err(|refusal| Failure::Refused {
         refusal,
@@ -399,10 +405,8 @@ fn placed(told: Option<&str>, path: &OsStr, pair: &Pair, shape: &[u64], shape_by
 fn no_part(path: &OsStr, description: Option<&str>) -> Failure {
     let name = files::name(path, "standard input");
     let why = description.map_or(undescribed(&[path]), |own| format!(" and {own} says no part"));
-    Failure::usage(format!(
-        "--part is missing for {name}{why}; for example --part 0..1,0..3 {}",
-        path.to_string_lossy()
-    ))
+    let typed = literal::clear(path.as_bytes());
+    Failure::usage(format!("--part is missing for {name}{why}; for example --part 0..1,0..3 {typed}"))
 }
 
 /// The first cell that no part holds, or that two hold.
@@ -487,6 +491,7 @@ fn make_load(arguments: &Arguments, watch: &Watch) -> Result<u8, Failure> {
     let kind = given_kind(arguments)?.ok_or_else(|| missing_kind(""))?;
     let shape = given_shape(arguments)?.ok_or_else(|| missing_shape(""))?;
     let start = arguments.start.as_ref().ok_or_else(|| Failure::usage("--start is missing; for example --start 7"))?;
+    watch.doing("generating the table");
     let load = generate(kind, &shape, words::start(start)?).map_err(|refusal| Failure::Refused {
         refusal,
         subject: "generate".into(),

@@ -22,7 +22,8 @@ use std::ffi::{OsStr, OsString};
 use std::fmt;
 use std::fs;
 
-const TITLE: &str = "durpaxeta description 1";
+/// The version of this form.
+const VERSION: u64 = 1;
 
 /// Which part of which whole shape a table is.
 #[derive(Clone, Debug, PartialEq, Eq)]
@@ -139,7 +140,9 @@ impl Description {
         let Description { kind, shape, part, bytes, checksum } = self;
         let part = part.as_ref().map_or(String::new(), |part| format!("part: {part}\n"));
         let shape = words::shape_text(shape);
-        format!("{TITLE}\nkind: {kind}\nshape: {shape}\n{part}bytes: {bytes}\ncrc-32c: {checksum:08X}\n")
+        format!(
+            "durpaxeta description {VERSION}\nkind: {kind}\nshape: {shape}\n{part}bytes: {bytes}\ncrc-32c: {checksum:08X}\n"
+        )
     }
 
     /// Reads the descriptions that stand in a text, one or more.
@@ -151,12 +154,16 @@ impl Description {
             if line.is_empty() || line.starts_with('#') {
                 continue;
             }
-            if line == TITLE {
-                all.push(Lines::default());
-                continue;
-            }
-            let Some(said) = all.last_mut() else { break };
             let here = |what: String| wrong(format!("line {number}: {what}"));
+            // The first line is a title, and so is one that begins as a title does.
+            let said = match all.last_mut() {
+                Some(said) if !line.starts_with("durpaxeta ") => said,
+                _ => {
+                    words::version(line, "description", VERSION).map_err(here)?;
+                    all.push(Lines::default());
+                    continue;
+                }
+            };
             let of_words = |failure: Failure| match failure {
                 Failure::Usage { what, .. } => here(what),
                 other => other.about(&format!("{name}, line {number}")),
@@ -181,7 +188,7 @@ impl Description {
             }
         }
         if all.is_empty() {
-            return Err(wrong(format!("the first line of a description is \"{TITLE}\"; here it is something else")));
+            words::version("", "description", VERSION).map_err(wrong)?;
         }
         all.into_iter().map(|lines| lines.complete().map_err(&wrong)).collect()
     }
@@ -344,6 +351,11 @@ mod tests {
             ("1..10 of 12", "1..10,0..1 of 12x1"),
         ] {
             assert_eq!(status(&good.replace(from, to)), 66, "{to}");
+        }
+        for (title, told) in [("description 2", "later durpaxeta"), ("worksheet 1", "this one is something else")] {
+            let said =
+                Description::read("a.dpx", format!("{good}durpaxeta {title}\n").as_bytes()).unwrap_err().to_string();
+            assert!(said.starts_with("a.dpx: line 7: ") && said.contains(told), "{said}");
         }
         assert_eq!(status(""), 66);
         assert_eq!(Description::read("a.dpx", b"\xFF").unwrap_err().status(), 66);

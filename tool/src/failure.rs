@@ -1,5 +1,8 @@
 //! What can go wrong, how it is told, and the exit status.
+//!
+//! A failure may hold text of others as it came: names of files, words, lines. It becomes clear where the failure is told.
 
+use crate::literal::clear;
 use durpaxeta::{Blame, Refusal};
 use std::fmt;
 use std::io;
@@ -22,6 +25,8 @@ pub const DIFFERENT: u8 = 71;
 pub const KEPT: u8 = 73;
 /// An error of the operating system.
 pub const SYSTEM: u8 = 74;
+/// What a shell says of a command that SIGPIPE ended, as it ends other tools whose reader leaves: 128 and its number.
+pub const LEFT: u8 = 128 + 13;
 
 #[derive(Debug)]
 pub enum Failure {
@@ -31,6 +36,8 @@ pub enum Failure {
     Worksheet { name: String, line: Option<usize>, what: String },
     /// The library refused. `subject` is the file or argument, `detail` what exactly is wrong.
     Refused { refusal: Refusal, subject: String, detail: Option<String> },
+    /// Whoever reads standard output has left, as `head` does. That is no error, and is not told.
+    Left,
     /// Anything else, in a plain sentence with an exit status of its own.
     Plain { status: u8, what: String },
 }
@@ -90,19 +97,19 @@ impl Failure {
             Failure::Usage { .. } => USAGE,
             Failure::Worksheet { .. } => WORKSHEET,
             Failure::Refused { refusal, .. } => refusal.number() as u8,
+            Failure::Left => LEFT,
             Failure::Plain { status, .. } => *status,
         }
     }
 }
 
-/// A refusal in plain words: number and meaning, what exactly, and whose it is.
+/// A refusal in plain words: its number and what exactly is wrong, what the number means of anything, and whose it is.
 pub fn refusal_text(refusal: Refusal, detail: Option<&str>) -> String {
-    let mut text = format!("refusal {}: {}.", refusal.number(), refusal.message());
-    if let Some(detail) = detail {
-        text.push_str("\n  ");
-        text.push_str(detail);
-        text.push('.');
-    }
+    let (number, message) = (refusal.number(), refusal.message());
+    let mut text = match detail {
+        Some(detail) => format!("refusal {number}: {}.\n  {number} means: {message}.", clear(detail)),
+        None => format!("refusal {number}: {message}."),
+    };
     text.push_str(&format!("\n  Caused by {}.", refusal.blame()));
     if refusal.blame() == Blame::Storer {
         text.push_str(" A --kind or --shape that is not the file's looks the same.");
@@ -113,14 +120,36 @@ pub fn refusal_text(refusal: Refusal, detail: Option<&str>) -> String {
 impl fmt::Display for Failure {
     fn fmt(&self, f: &mut fmt::Formatter<'_>) -> fmt::Result {
         match self {
-            Failure::Usage { what, command: Some(command) } => write!(f, "{what}\nSee 'durpaxeta help {command}'."),
-            Failure::Usage { what, command: None } => write!(f, "{what}\nSee 'durpaxeta help'."),
-            Failure::Worksheet { name, line: Some(line), what } => write!(f, "{name}, line {line}: {what}"),
-            Failure::Worksheet { name, line: None, what } => write!(f, "{name}: {what}"),
-            Failure::Refused { refusal, subject, detail } => {
-                write!(f, "{subject}: {}", refusal_text(*refusal, detail.as_deref()))
+            Failure::Usage { what, command } => {
+                let page = command.map_or(String::new(), |command| format!(" {command}"));
+                write!(f, "{}\nSee 'durpaxeta help{page}'.", clear(what))
             }
-            Failure::Plain { what, .. } => f.write_str(what),
+            Failure::Worksheet { name, line: Some(line), what } => {
+                write!(f, "{}, line {line}: {}", clear(name), clear(what))
+            }
+            Failure::Worksheet { name, line: None, what } => write!(f, "{}: {}", clear(name), clear(what)),
+            Failure::Refused { refusal, subject, detail } => {
+                write!(f, "{}: {}", clear(subject), refusal_text(*refusal, detail.as_deref()))
+            }
+            Failure::Left => f.write_str("whoever reads standard output has left"),
+            Failure::Plain { what, .. } => f.write_str(&clear(what)),
+        }
+    }
+}
+
+#[cfg(test)]
+mod tests {
+    use super::*;
+
+    #[test]
+    fn what_is_wrong_comes_first() {
+        let blame = "Caused by whoever describes the table.";
+        let meaning = "the kind has no masks, and only a mask can hide a cell from a guest";
+        for (detail, text) in [
+            (None, format!("refusal 17: {meaning}.\n  {blame}")),
+            (Some("The kind is x\ny"), format!("refusal 17: The kind is x\\ny.\n  17 means: {meaning}.\n  {blame}")),
+        ] {
+            assert_eq!(refusal_text(Refusal::NoMasks, detail), text);
         }
     }
 }

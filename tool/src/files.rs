@@ -1,12 +1,14 @@
 //! Files: their names, their identity, and reading them.
 
 use crate::failure::{Failure, SYSTEM};
+use crate::literal;
 use crate::system;
 use crate::watch::Watch;
 use std::ffi::OsStr;
 use std::fs::{self, File, Metadata};
 use std::io::{self, Read};
 use std::os::fd::AsFd;
+use std::os::unix::ffi::OsStrExt;
 use std::os::unix::fs::MetadataExt;
 use std::path::{Path, PathBuf};
 
@@ -29,12 +31,12 @@ pub struct Input {
     pub identity: Option<Identity>,
 }
 
-/// The name of a file for people.
+/// The name of a file for people: clear, whatever stands in it.
 pub fn name(path: &OsStr, standard: &str) -> String {
     if path == "-" {
         standard.to_string()
     } else {
-        path.to_string_lossy().into_owned()
+        literal::clear(path.as_bytes())
     }
 }
 
@@ -100,6 +102,7 @@ impl Opened {
     /// Reads all of it.
     pub fn read(mut self, watch: &Watch) -> Result<Input, Failure> {
         let bytes = read_all(&mut self.file, &self.name, self.total, watch)?;
+        watch.doing(format!("decoding {}", self.name));
         Ok(Input { name: self.name, bytes, identity: self.identity })
     }
 }

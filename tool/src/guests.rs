@@ -7,7 +7,7 @@ use crate::files::{self, Input};
 use crate::stored::{cells, Stored};
 use crate::tables::{missing, Setting};
 use crate::watch::Watch;
-use crate::words;
+use crate::{words, worksheet};
 use durpaxeta::{guest_read, Array, Refusal, Rights};
 use std::ffi::OsStr;
 
@@ -84,7 +84,7 @@ impl Seen {
 }
 
 pub fn show(arguments: &Arguments, watch: &Watch) -> Result<u8, Failure> {
-    print_table(arguments, watch, || Ok(Seen::read(arguments, watch)?.array))
+    print_table(arguments, watch, worksheet::write_seen, || Ok(Seen::read(arguments, watch)?.array))
 }
 
 pub fn read(arguments: &Arguments, watch: &Watch) -> Result<u8, Failure> {

@@ -23,12 +23,15 @@ A stored table does not say its kind or its shape. You do, or its description do
 
   --kind "depth 2, ragged, width 4, index at start"    cells of any length
   --kind "depth 2, packed masks, ragged, width 4, index at start"    the same, its stored masks a bit a cell
-  --kind "depth 1, fixed, size 2, little order"        cells of 2 bytes; or: big order
+  --kind "depth 1, fixed, size 2, little order"        cells of 2 bytes; or: big order, stored the last byte first
   --shape 2x3                                          2 rows of 3 cells
   --subset 0..2,1..3                                   rows 0 and 1, columns 1 and 2: the end is not included
 
 Depth is the number of mask levels. Level 1 is the outermost. Bytes are counted from 0.
 A file name of - is standard input or standard output. Inputs of over 268,435,456 bytes are not read.
+What takes over a second is told in a line on standard error, where that is a terminal.
+In a message the name of a file, a word or a line stands on one line: line ends, controls, invisible and right-to-left
+characters and bytes that are no UTF-8 are told as \n, \r, \t or \x1B.
 
 Where write, cut, merge, convert, generate, table and guest write to:
   A file is replaced whole or stays as it was. What is written goes to a temporary file in the same folder, is synced, and
@@ -54,7 +57,8 @@ Exit status:
   68, 69    a file of another length (68) or checksum (69) than its description says
   71        same: two valid files that are not the same table
   73        --no-clobber: the output is there already
-  74        an error of the operating system; so is an output whose reader left, or that was closed
+  74        an error of the operating system; so is an output that was closed
+  141       standard output's reader left before all was written, as in '.. | head'; nothing is told
 
 Examples:
   durpaxeta example > guests.txt
@@ -69,11 +73,12 @@ pub const SHOW: &str = r#"durpaxeta show [--kind KIND --shape SHAPE] [--hex | --
 Prints a stored table as a worksheet: a line for each cell, with its coordinates, its mask byte of each level, and then
 'null at level N' or a value. A value of no bytes is printed as value "". A value is printed as text if it is UTF-8 and all
 of it is printable and clear: no control, joining, invisible or right-to-left characters. Others, and all fixed ones, are
-printed in hex; with --hex all are.
+printed in hex; with --hex all are. Bytes stand as in memory, in --json too: in big order value hex 01 02 is stored as 02 01.
 'durpaxeta write' makes the same table out of the worksheet.
 
-With --json each cell is one line with a JSON object: "cell" and "masks" are lists, then comes "null" with the level, or
-"value" with "text" and "hex". The text of a value that is no UTF-8 is null.
+With --json each cell is one line with a JSON object. "is" comes first: "null", "empty" or "value". "cell" and "masks" are lists.
+Then a null has "null", its level; the others have "value" with "text" and "hex". Go by "is": the text of a value that is no UTF-8
+is null, too.
 
 Kind and shape may be left out where FILE.dpx says them ('durpaxeta help write').
 
@@ -101,7 +106,8 @@ Makes a stored table from a worksheet. The worksheet says its kind and its shape
 A line is the coordinates, the mask byte of each level (00 is null, 01 is set, any other is refused with 4; at depth 0 a -),
 and what the cell is: null at level N, value "text" or value hex 0A 0B. Masks and words must agree. A kind with packed masks
 stores each mask byte as a bit. In a text \" \\ \n \t \r and \x0A stand for one byte; other characters for their bytes in
-UTF-8. Every cell stands in one line; their order is free. # begins a comment.
+UTF-8. Every cell stands in one line; their order is free. # begins a comment. Bytes of a value are typed as they lie in memory,
+the lowest address first: in little order they are stored so, in big order value hex 01 02 is stored as 02 01.
 
 With --describe OUT.dpx is written too: a text with kind, shape, byte length and checksum of OUT. Both are replaced, or on an
 error or a signal neither; and at every moment between, OUT.dpx fits OUT. Where OUT.dpx is there already, --describe must be
@@ -255,8 +261,9 @@ durpaxeta table preview --cell CELL --to WHAT TABLE
 durpaxeta table pack --most NUMBER [--no-clobber] TABLE OUT
 
 A working table is a ragged table whose cells are edited: each has a start and a length in a store of so many bytes. Here it is a
-text, which says of each cell its masks, its start and its length, and then what bytes the store has; docs/FORMAT.md, part 15.
-A program calls the library instead, on its own memory.
+text. It says of each cell its masks, in words whether it is null, empty or has a value, its start and its length, and then what
+bytes the store has; docs/FORMAT.md, part 15. Words that masks and length contradict are refused (65). A program calls the library
+instead, on its own memory.
 
   make   makes a working table of a stored one. Kind and shape may be left out where IN.dpx says them. The store must have room
          for the cells; what is more is room for other values.
@@ -287,14 +294,14 @@ pub const GUEST: &str = r#"durpaxeta guest show --rights PLANE [--kind KIND --sh
 durpaxeta guest read --rights PLANE [--kind KIND --shape SHAPE] [--describe] [--no-clobber] IN OUT
 durpaxeta guest edit --rights PLANE --cell CELL --to WHAT [--no-clobber] TABLE OUT
 
-A guest may see some cells of a table, and learns nothing of the others. A rights plane says which: a number for each cell, row by
-row, 1 where the guest may see it and 0 where not. Commas and blanks between the numbers are free: 1,0,1,0 and '10 10' are one
-plane. --rights-file FILE takes the plane from a file instead; there it may have lines, and # begins a comment. A plane with
-another number, or for another count of cells, is refused with 4. The kind must have a depth of at least 1, as only a mask can
-hide a cell: another one is 17.
+A guest may see some cells of a table, and learns nothing of the others. A rights plane says which: a digit for each cell, row by
+row, 1 where the guest may see it and 0 where not, with commas between: 1,0,1,0. --rights-file FILE takes the plane from a file
+instead, where the end of a line does for a comma, and # begins a comment. A blank does for a comma, too. Digits of two cells with
+nothing between, as in '00 01', are refused: that could be four cells, or two bytes. A plane with another digit, or for another
+count of cells, is refused with 4. The kind must have a depth of at least 1, as only a mask can hide a cell: another one is 17.
 
   show   prints what the guest sees of a stored table, as 'durpaxeta show' prints a table. A cell that the plane hides is null at
-         level 1, whatever it is.
+         level 1, whatever it is: so a null is hidden or not set, and the guest cannot tell which.
   read   stores what show prints, as a table of the same kind and shape; of a part, with --describe, as the same part. Tables that
          differ in hidden cells alone give the same file.
   edit   sets a cell of a working table, a text as 'durpaxeta table' has it, if the plane shows that cell; 18 is a cell that it hides.
@@ -312,7 +319,7 @@ Examples:
   durpaxeta guest show --rights 1,0,1,0 guests.bin
   durpaxeta guest read --rights 1,0,1,0 --describe guests.bin own.bin
   durpaxeta show --json own.bin
-  printf '1 0  # host 0\n1 0  # host 1\n' > rights.txt
+  printf '1,0  # host 0\n1,0  # host 1\n' > rights.txt
   durpaxeta table make --store 12 guests.bin work.txt
   durpaxeta guest edit --rights-file rights.txt --cell 1,0 --to 'value "4-7"' work.txt next.txt
   durpaxeta guest edit --rights-file rights.txt --cell 0,1 --to 'value "8"' work.txt no.txt 2>&1 || echo "refused with $?"

@@ -1,12 +1,13 @@
 //! A table for programs: one JSON object a line for each cell.
 //!
 //! ```text
-//! {"cell":[0,0],"masks":[1,1],"value":{"text":"0-3,8","hex":"302D332C38"}}
-//! {"cell":[0,1],"masks":[1,1],"value":{"text":"","hex":""}}
-//! {"cell":[1,0],"masks":[0,0],"null":1}
+//! {"is":"value","cell":[0,0],"masks":[1,1],"value":{"text":"0-3,8","hex":"302D332C38"}}
+//! {"is":"empty","cell":[0,1],"masks":[1,1],"value":{"text":"","hex":""}}
+//! {"is":"null","cell":[1,0],"masks":[0,0],"null":1}
 //! ```
 //!
-//! A cell has "null", the level, or "value", never both. The text of bytes that are no UTF-8 is null.
+//! First comes what the cell is. A null has "null", the level; empty and value have "value"; never both. The text of bytes that are no
+//! UTF-8 is null, so who looks at the text alone takes such a value for a null.
 
 use crate::literal;
 use crate::words;
@@ -18,7 +19,12 @@ pub fn write(array: &Array) -> String {
     for number in 0..array.cell_count() {
         let cell = words::coordinates(&array.shape, number);
         let masks: Vec<String> = array.masks_of(number).iter().map(u8::to_string).collect();
-        let _ = write!(text, "{{\"cell\":[{cell}],\"masks\":[{}],", masks.join(","));
+        let is = match array.cell(number) {
+            Some(Cell::Value([])) => "empty",
+            Some(Cell::Value(_)) => "value",
+            _ => "null",
+        };
+        let _ = write!(text, "{{\"is\":\"{is}\",\"cell\":[{cell}],\"masks\":[{}],", masks.join(","));
         match array.cell(number) {
             Some(Cell::Value(value)) => {
                 let words = std::str::from_utf8(value).map_or_else(|_| "null".to_string(), quoted);
@@ -77,12 +83,12 @@ mod tests {
         assert_eq!(
             lines,
             [
-                r#"{"cell":[0,0],"masks":[1,1],"value":{"text":"0-3,8","hex":"302D332C38"}}"#,
-                r#"{"cell":[0,1],"masks":[1,1],"value":{"text":"","hex":""}}"#,
-                r#"{"cell":[0,2],"masks":[0,0],"null":1}"#,
-                r#"{"cell":[1,0],"masks":[1,0],"null":2}"#,
-                r#"{"cell":[1,1],"masks":[1,1],"value":{"text":null,"hex":"FF00"}}"#,
-                "{\"cell\":[1,2],\"masks\":[1,1],\"value\":{\"text\":\"\\\"\\\\\\u000A\\u202E\\uDBFF\\uDFFFü\",\"hex\":\"225C0AE280AEF48FBFBFC3BC\"}}",
+                r#"{"is":"value","cell":[0,0],"masks":[1,1],"value":{"text":"0-3,8","hex":"302D332C38"}}"#,
+                r#"{"is":"empty","cell":[0,1],"masks":[1,1],"value":{"text":"","hex":""}}"#,
+                r#"{"is":"null","cell":[0,2],"masks":[0,0],"null":1}"#,
+                r#"{"is":"null","cell":[1,0],"masks":[1,0],"null":2}"#,
+                r#"{"is":"value","cell":[1,1],"masks":[1,1],"value":{"text":null,"hex":"FF00"}}"#,
+                "{\"is\":\"value\",\"cell\":[1,2],\"masks\":[1,1],\"value\":{\"text\":\"\\\"\\\\\\u000A\\u202E\\uDBFF\\uDFFFü\",\"hex\":\"225C0AE280AEF48FBFBFC3BC\"}}",
             ]
         );
     }

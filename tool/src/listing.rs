@@ -1,29 +1,32 @@
-//! The listing: a working table as text. What each cell has, where it lies, and the bytes of the store.
+//! The listing: a working table as text. What each cell is, where it lies, and the bytes of the store.
 //!
 //! ```text
-//! durpaxeta working table 1
+//! durpaxeta working table 2
 //! kind: depth 2, ragged, width 4, index at start
 //! shape: 2x2
 //! store: 16
-//! 0,0 | 01 01 | start 5, length 2
-//! 0,1 | 01 01 | start 0, length 0
-//! 1,0 | 00 00 | start 0, length 0
-//! 1,1 | 01 00 | start 0, length 0
+//! 0,0 | 01 01 | value | start 5, length 2
+//! 0,1 | 01 01 | empty | start 0, length 0
+//! 1,0 | 00 00 | null at level 1 | start 0, length 0
+//! 1,1 | 01 00 | null at level 2 | start 0, length 0
 //! at 0 | "0-3,8"
 //! at 5 | "12"
 //! ```
 //!
-//! A line of a cell is its coordinates, its mask byte of each level (a `-` at depth 0), its start and its length. A line of the store
-//! is where its bytes begin, and `"text"` or `hex 0A 0B` as in a worksheet; these lines stand in the order of the store, and bytes that
-//! none of them has are 00. Nothing is judged here: what the lists say is for the library to refuse.
+//! A line of a cell is its coordinates, its mask byte of each level (a `-` at depth 0), what masks and length say of it in words, its
+//! start and its length. So null and empty differ in a word and in a mask byte, and a line where the two contradict each other is not
+//! accepted. In version 1 the words were not there. A line of the store is where its bytes begin, and `"text"` or `hex 0A 0B` as in a
+//! worksheet; these lines stand in the order of the store, and bytes that none of them has are 00. Nothing else is judged here: what
+//! the lists say is for the library to refuse.
 
 use crate::failure::Failure;
 use crate::literal::{self, hex_byte, word};
 use crate::words;
-use durpaxeta::{read_number, Kind, Table, MAX_STORE};
+use durpaxeta::{read_number, Kind, Mark, Table, MAX_STORE};
 use std::fmt::Write;
 
-const TITLE: &str = "durpaxeta working table 1";
+/// The version of this form. Before it the lines of cells had no words.
+const VERSION: u64 = 2;
 
 /// A working table with the shape that its cells are named by.
 #[derive(Debug, PartialEq)]
@@ -36,14 +39,19 @@ pub struct Listing {
 pub fn write(listing: &Listing) -> String {
     let Listing { shape, table } = listing;
     let (kind, count, size) = (table.kind, table.cell_count(), table.store.len());
-    let mut text = format!("{TITLE}\nkind: {kind}\nshape: {}\nstore: {size}\n", words::shape_text(shape));
-    text.push_str("# cell | mask of each level | where its bytes lie in the store\n");
+    let mut text = format!(
+        "durpaxeta working table {VERSION}\nkind: {kind}\nshape: {}\nstore: {size}\n",
+        words::shape_text(shape)
+    );
+    text.push_str("# cell | mask of each level | null: not set, and at which level; empty: set, with no bytes | ");
+    text.push_str("where its bytes lie in the store\n");
     let width = if count > 0 { words::coordinates(shape, count - 1).len() } else { 0 };
     for cell in 0..count {
         let masks: Vec<u8> = table.masks.iter().skip(cell).step_by(count).copied().collect();
-        let masks = if masks.is_empty() { "-".into() } else { literal::spaced(&masks) };
         let (name, start, length) = (words::coordinates(shape, cell), table.starts[cell], table.lengths[cell]);
-        let _ = writeln!(text, "{name:<width$} | {masks} | start {start}, length {length}");
+        let is = is(&masks, length);
+        let masks = if masks.is_empty() { "-".into() } else { literal::spaced(&masks) };
+        let _ = writeln!(text, "{name:<width$} | {masks} | {is} | start {start}, length {length}");
     }
     text.push_str("# the store: from which byte on | its bytes; those that are not listed are 00\n");
     let mut lying: Vec<usize> = (0..count).filter(|&cell| table.lengths[cell] > 0).collect();
@@ -60,6 +68,15 @@ pub fn write(listing: &Listing) -> String {
     text
 }
 
+/// What a cell is, by its masks and its length: the words that stand between them.
+fn is(masks: &[u8], length: u64) -> String {
+    match masks.iter().position(|&mask| Mark::of(mask) == Mark::Null) {
+        Some(level) => format!("null at level {}", level + 1),
+        None if length == 0 => "empty".into(),
+        None => "value".into(),
+    }
+}
+
 /// Bytes in no cell, where some are not 00.
 fn between(text: &mut String, store: &[u8], places: std::ops::Range<usize>) {
     let bytes = &store[places.clone()];
@@ -72,7 +89,7 @@ fn between(text: &mut String, store: &[u8], places: std::ops::Range<usize>) {
 /// Reads a listing.
 pub fn read(name: &str, bytes: &[u8]) -> Result<Listing, Failure> {
     let text = words::text(name, bytes, "no listing of a working table")?;
-    let mut reader = Reader { name, line: 0, kind: None, shape: None, size: None, cells: vec![], store: vec![], at: 0 };
+    let mut reader = Reader { name, ..Reader::default() };
     let mut titled = false;
     for (number, line) in text.lines().enumerate() {
         reader.line = number + 1;
@@ -82,11 +99,9 @@ pub fn read(name: &str, bytes: &[u8]) -> Result<Listing, Failure> {
         }
         if titled {
             reader.line(line)?;
-        } else if line == TITLE {
-            titled = true;
         } else {
-            let what = format!("the first line of a working table is \"{TITLE}\"; this one is something else");
-            return Err(reader.wrong(what));
+            let version = words::version(line, "working table", VERSION).map_err(|what| reader.wrong(what))?;
+            (titled, reader.words) = (true, version == VERSION);
         }
     }
     reader.listing()
@@ -100,9 +115,12 @@ struct Given {
     length: u64,
 }
 
+#[derive(Default)]
 struct Reader<'a> {
     name: &'a str,
     line: usize,
+    /// Whether the lines of cells have words.
+    words: bool,
     kind: Option<Kind>,
     shape: Option<Vec<u64>>,
     size: Option<u64>,
@@ -179,11 +197,14 @@ impl Reader<'_> {
     }
 
     fn cell(&mut self, kind: Kind, shape: &[u64], line: &str) -> Result<(), Failure> {
-        let mut parts = line.split('|').map(str::trim);
-        let (Some(coordinates), Some(masks), Some(place), None) =
-            (parts.next(), parts.next(), parts.next(), parts.next())
-        else {
-            return Err(self.wrong("a line of a cell is: coordinates | masks | start 0, length 5"));
+        let parts: Vec<&str> = line.split('|').map(str::trim).collect();
+        let (coordinates, masks, said, place) = match (self.words, &parts[..]) {
+            (true, &[coordinates, masks, said, place]) => (coordinates, masks, Some(said), place),
+            (false, &[coordinates, masks, place]) => (coordinates, masks, None, place),
+            (words, _) => {
+                let words = if words { "null at level 1, empty or value | " } else { "" };
+                return Err(self.wrong(format!("a line of a cell is: coordinates | masks | {words}start 0, length 5")));
+            }
         };
         let Some(number) = words::cell_number(shape, coordinates) else {
             return Err(self.wrong(format!("\"{coordinates}\" is no cell of a table of {}", words::shape_text(shape))));
@@ -205,8 +226,12 @@ impl Reader<'_> {
             _ => None,
         };
         let Some((start, length)) = place else {
-            return Err(self.wrong("behind the masks comes where the cell lies: start 0, length 5"));
+            return Err(self.wrong("last comes where the cell lies: start 0, length 5"));
         };
+        let is = is(&masks, length);
+        if let Some(said) = said.filter(|said| *said != is) {
+            return Err(self.wrong(format!("the cell says \"{said}\", and its masks and its length say \"{is}\"")));
+        }
         self.cells[number] = Some(Given { line: self.line, masks, start, length });
         Ok(())
     }
@@ -240,7 +265,7 @@ mod tests {
     use durpaxeta::{generate, Cell, Place, Width};
 
     const HEAD: &str =
-        "durpaxeta working table 1\nkind: depth 1, ragged, width 4, index at start\nshape: 2\nstore: 6\n";
+        "durpaxeta working table 2\nkind: depth 1, ragged, width 4, index at start\nshape: 2\nstore: 6\n";
 
     fn status(text: &str) -> u8 {
         read("listing", text.as_bytes()).unwrap_err().status()
@@ -249,32 +274,38 @@ mod tests {
     #[test]
     fn cells_and_store() {
         let text = format!(
-            "{HEAD}1 | 01 | start 3, length 2 # any order\n0 | 00 | start 0, length 0\nat 0 | hex 41\nat 3 | \"xy\"\n"
+            "{HEAD}1 | 01 | value | start 3, length 2 # any order\n0 | 00 | null at level 1 | start 0, length 0\nat 0 | hex 41\nat 3 | \"xy\"\n"
         );
         let Listing { shape, table } = read("listing", text.as_bytes()).unwrap();
         assert_eq!((&shape[..], &table.masks[..]), (&[2][..], &[0, 1][..]));
         assert_eq!((&table.starts[..], &table.lengths[..]), (&[0, 3][..], &[0, 2][..]));
         assert_eq!(table.store, b"A\0\0xy\0");
         let written = write(&Listing { shape, table });
-        assert!(written.contains("0 | 00 | start 0, length 0\n1 | 01 | start 3, length 2\n"), "{written}");
+        assert!(
+            written.contains("0 | 00 | null at level 1 | start 0, length 0\n1 | 01 | value | start 3, length 2\n"),
+            "{written}"
+        );
         assert!(written.ends_with("at 0 | \"A\" # in no cell\nat 3 | \"xy\" # cell 1\n"), "{written}");
     }
 
     #[test]
     fn what_is_no_listing() {
-        let cells = "0 | 01 | start 0, length 0\n1 | 01 | start 0, length 0\n";
+        let cells = "0 | 01 | empty | start 0, length 0\n1 | 01 | empty | start 0, length 0\n";
         assert!(read("listing", format!("{HEAD}{cells}").as_bytes()).is_ok());
         for lines in [
             "",
+            "0 | 01 | empty | start 0, length 0\n",
+            &format!("{cells}0 | 01 | empty | start 0, length 0\n"),
+            "2 | 01 | empty | start 0, length 0\n",
+            "0 | 01 01 | empty | start 0, length 0\n",
+            "0 | - | empty | start 0, length 0\n",
+            "0 | 01 | empty | start 0\n",
+            "0 | 01 | empty | 0, 0\n",
+            "0 | 01 | empty | start 0, length -1\n",
+            "0 | 01 | empty | start 0, length 0 | more\n",
             "0 | 01 | start 0, length 0\n",
-            &format!("{cells}0 | 01 | start 0, length 0\n"),
-            "2 | 01 | start 0, length 0\n",
-            "0 | 01 01 | start 0, length 0\n",
-            "0 | - | start 0, length 0\n",
-            "0 | 01 | start 0\n",
-            "0 | 01 | 0, 0\n",
-            "0 | 01 | start 0, length -1\n",
-            "0 | 01 | start 0, length 0 | more\n",
+            "0 | 01 | value | start 0, length 0\n",
+            "0 | 00 | empty | start 0, length 0\n",
             "kind: depth 0, ragged, width 4, index at start\n",
             "shape: 2\n",
             "store: 6\n",
@@ -290,10 +321,10 @@ mod tests {
         }
         assert_eq!(status(""), 65);
         assert_eq!(status("durpaxeta worksheet 1\n"), 65);
-        assert_eq!(status("durpaxeta working table 1\nstore: many\n"), 65);
-        assert_eq!(status("durpaxeta working table 1\nkind: depth 5, ragged, width 4, index at start\n"), 1);
-        assert_eq!(status("durpaxeta working table 1\nshape: 0\n"), 2);
-        assert_eq!(read("listing", b"durpaxeta working table 1\n\xFF\n").unwrap_err().status(), 65);
+        assert_eq!(status("durpaxeta working table 2\nstore: many\n"), 65);
+        assert_eq!(status("durpaxeta working table 2\nkind: depth 5, ragged, width 4, index at start\n"), 1);
+        assert_eq!(status("durpaxeta working table 2\nshape: 0\n"), 2);
+        assert_eq!(read("listing", b"durpaxeta working table 2\n\xFF\n").unwrap_err().status(), 65);
     }
 
     /// What is written is read as the same table, whatever lies where.

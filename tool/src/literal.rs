@@ -1,4 +1,5 @@
 //! A value in words: `"text"` or `hex 0A 0B`. What is written here is read back to the same bytes.
+//! And text of others, as it may stand in a message.
 
 use std::fmt::Write;
 
@@ -30,6 +31,31 @@ pub fn shown(character: char) -> bool {
 /// The text that bytes are, where all of it is shown as it is.
 pub fn text(value: &[u8]) -> Option<&str> {
     std::str::from_utf8(value).ok().filter(|text| text.chars().all(shown))
+}
+
+/// Text of others for a message: on one line, and as it is. What is not shown as it is, and what is no UTF-8, stands as its bytes, by
+/// the escapes of a worksheet's text. What came out already comes out again.
+pub fn clear(foreign: impl AsRef<[u8]>) -> String {
+    let foreign = foreign.as_ref();
+    let mut clear = String::with_capacity(foreign.len());
+    let escape = |clear: &mut String, byte: u8| {
+        let _ = match byte {
+            b'\n' => write!(clear, "\\n"),
+            b'\r' => write!(clear, "\\r"),
+            b'\t' => write!(clear, "\\t"),
+            _ => write!(clear, "\\x{byte:02X}"),
+        };
+    };
+    for chunk in foreign.utf8_chunks() {
+        for character in chunk.valid().chars() {
+            match shown(character) {
+                true => clear.push(character),
+                false => character.encode_utf8(&mut [0; 4]).bytes().for_each(|byte| escape(&mut clear, byte)),
+            }
+        }
+        chunk.invalid().iter().for_each(|&byte| escape(&mut clear, byte));
+    }
+    clear
 }
 
 /// Text that is shown in quotes, all else in hex. No bytes are always `""`.
@@ -169,6 +195,24 @@ mod tests {
         assert_eq!(write(b"\xC3", false), "hex C3");
         assert_eq!(write(b"\xED\xA0\x80", false), "hex ED A0 80");
         assert_eq!(write("ü".as_bytes(), true), "hex C3 BC");
+    }
+
+    #[test]
+    fn foreign_text() {
+        for (foreign, told) in [
+            (&b"guests.bin"[..], "guests.bin"),
+            (b"x\nguests.bin: valid", "x\\nguests.bin: valid"),
+            (b"\t\r\0\x1B[2J\x7F", "\\t\\r\\x00\\x1B[2J\\x7F"),
+            ("\u{9B}\u{202E}ü冷\u{FFFD}".as_bytes(), "\\xC2\\x9B\\xE2\\x80\\xAEü冷\\xEF\\xBF\\xBD"),
+            (b"a\xFFb\xE2\x80", "a\\xFFb\\xE2\\x80"),
+            (b"C:\\new \"x\"", "C:\\new \"x\""),
+        ] {
+            assert_eq!(clear(foreign), told);
+            assert_eq!(clear(told), told);
+        }
+        for character in '\0'..=char::MAX {
+            assert!(clear(character.to_string()).chars().all(shown), "{character:?}");
+        }
     }
 
     /// Every character, and every single byte.

@@ -34,7 +34,7 @@ fn main() -> ExitCode {
     match commands::run(std::env::args_os().skip(1).collect()) {
         Ok(status) => ExitCode::from(status),
         Err(failure) => {
-            output::tell(&failure.to_string());
+            output::tell_of(&failure);
             ExitCode::from(failure.status())
         }
     }

@@ -84,11 +84,16 @@ impl Output {
     pub fn stream(&self, bytes: &[u8], watch: &Watch) -> Result<(), Failure> {
         watch.step(format!("writing {}", self.name), Some(bytes.len() as u64), "bytes");
         let to = match &self.way {
-            Way::Standard => standard(),
+            Way::Standard => {
+                watch.hush();
+                standard()
+            }
             Way::Stream(path) | Way::File(path) => OpenOptions::new().append(true).open(path),
         };
         let mut to = to.map_err(|error| self.failed(&error))?;
-        pieces(self, &mut to, bytes, watch, || false)
+        let written = pieces(self, &mut to, bytes, watch, || false);
+        watch.hush();
+        written
     }
 
     fn kept(&self) -> Failure {
@@ -96,7 +101,10 @@ impl Output {
     }
 
     fn failed(&self, error: &io::Error) -> Failure {
-        Failure::system("write", &self.name, error)
+        match (&self.way, error.kind()) {
+            (Way::Standard, ErrorKind::BrokenPipe) => Failure::Left,
+            _ => Failure::system("write", &self.name, error),
+        }
     }
 
     fn takes_no_new_file(&self, error: &io::Error) -> Failure {
@@ -184,7 +192,6 @@ impl Turn {
         let held = system::hold();
         let stem = format!("{:08X}", crc32c(place.path.file_name().unwrap_or_default().as_bytes()));
         let path = folder.join(format!("{TEMPORARY}{stem}-lock"));
-        watch.step(format!("writing {}, behind another command that writes it", output.name), None, "looks");
         let mut looks = 0;
         let lock = loop {
             match LockFile::take(&path).map_err(|error| output.takes_no_new_file(&error))? {
@@ -195,10 +202,12 @@ impl Turn {
             // Asked again and again, and not waited for in the kernel, so that a signal is heard in between.
             thread::sleep(Duration::from_millis(2.min(looks)));
             if held.arrived() {
+                // The signal ends the command as soon as it is not held.
+                watch.hush();
                 return Err(output.stopped());
             }
+            watch.doing(format!("waiting for another command that writes {}", output.name));
             looks += 1;
-            watch.done(looks);
         };
         let turn = Turn { lock, folder, stem, held };
         if turn.lock.is_some() {
@@ -248,6 +257,7 @@ impl Turn {
             file.set_permissions(Permissions::from_mode(about.mode() & 0o7777)).map_err(failed)?;
         }
         pieces(output, &mut file, bytes, watch, || self.held.arrived())?;
+        watch.doing(format!("syncing {}", output.name));
         sync(&file).map_err(failed)?;
         if self.held.arrived() {
             return Err(output.stopped());
@@ -380,6 +390,13 @@ impl Place<'_> {
             let name = format!("{}, which is in its place", self.output.name);
             Failure::system("sync the folder of", &name, &error)
         })
+    }
+}
+
+/// Tells what went wrong; where only the reader of standard output has left, nothing did.
+pub fn tell_of(failure: &Failure) {
+    if !matches!(failure, Failure::Left) {
+        tell(&failure.to_string());
     }
 }
 

@@ -16,7 +16,7 @@
 use crate::describe::{self, Described, Description};
 use crate::failure::{Failure, SYSTEM};
 use crate::files::{self, Identity, Input};
-use crate::output::{Output, Place, Turn};
+use crate::output::{Output, Place, Ready, Turn};
 use crate::watch::Watch;
 use std::ffi::{OsStr, OsString};
 use std::fs;
@@ -51,8 +51,8 @@ impl Pair {
             let described = description.map(|description| Described::read(description, &input)).transpose()?;
             return Ok(Pair { input, described });
         }
-        let (name, beside) = (path.to_string_lossy(), describe::beside(path));
-        let what = format!("cannot read {name}: {} was replaced each of {TRIES} times", beside.to_string_lossy());
+        let (name, beside) = (files::name(path, ""), files::name(&describe::beside(path), ""));
+        let what = format!("cannot read {name}: {beside} was replaced each of {TRIES} times");
         Err(Failure::plain(SYSTEM, what))
     }
 }
@@ -89,7 +89,7 @@ impl Target {
         let description = Output::new(&beside, no_clobber, inputs)?;
         let one = file.identity().is_some() && file.identity() == description.identity();
         if description.place().is_none() || one {
-            let beside = beside.to_string_lossy();
+            let beside = files::name(&beside, "");
             return Err(Failure::usage(format!("{beside} is no file of its own, so it cannot be the description")));
         }
         Ok(Target { file, beside, description: Some(description), advice: "" })
@@ -99,7 +99,7 @@ impl Target {
         if self.file.place().is_none() || fs::symlink_metadata(&self.beside).is_err() {
             return Ok(());
         }
-        let (beside, advice) = (self.beside.to_string_lossy(), self.advice);
+        let (beside, advice) = (files::name(&self.beside, ""), self.advice);
         Err(Failure::usage(format!("{beside} is there and would no longer be right: {advice}")))
     }
 
@@ -107,14 +107,19 @@ impl Target {
     pub fn write(&self, bytes: &[u8], says: Option<&Description>, watch: &Watch) -> Result<(), Failure> {
         let Some(place) = self.file.place() else { return self.file.stream(bytes, watch) };
         let turn = Turn::take(place, watch)?;
-        match self.description.as_ref().and_then(Output::place).zip(says) {
+        let written = match self.description.as_ref().and_then(Output::place).zip(says) {
             Some((description, says)) => replace(place, description, bytes, says, &turn, watch),
             None => {
                 // Looked at again, as now nobody else writes one.
-                self.not_described()?;
-                turn.store(place, bytes, fs::metadata(place.path).ok().as_ref(), watch)?.put()
+                let stored = self
+                    .not_described()
+                    .and_then(|()| turn.store(place, bytes, fs::metadata(place.path).ok().as_ref(), watch));
+                stored.and_then(Ready::put)
             }
-        }
+        };
+        // While the turn holds signals back: one that arrived ends the command.
+        watch.hush();
+        written
     }
 }
 

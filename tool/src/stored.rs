@@ -3,7 +3,7 @@
 use crate::arguments::Arguments;
 use crate::describe::{self, Described, Part};
 use crate::failure::Failure;
-use crate::files::Input;
+use crate::files::{self, Input};
 use crate::locate::{self, Walk};
 use crate::pair::Pair;
 use crate::watch::Watch;
@@ -128,7 +128,7 @@ impl Stored {
 /// Why kind and shape must be given: no file that is read has a description.
 pub fn undescribed(paths: &[&OsStr]) -> String {
     let described = paths.iter().filter(|path| **path != "-").map(|path| describe::beside(path));
-    let names: Vec<String> = described.map(|name| format!("no {}", name.to_string_lossy())).collect();
+    let names: Vec<String> = described.map(|name| format!("no {}", files::name(&name, ""))).collect();
     match names.is_empty() {
         true => String::new(),
         false => format!(" and there is {}", names.join(" and ")),

@@ -22,6 +22,19 @@ pub fn kind(text: &str) -> Result<Kind, Failure> {
     }
 }
 
+/// The version that the title of a text names, such as `durpaxeta worksheet 1`. `form` is what the text is to be, up to version `newest`.
+pub fn version(title: &str, form: &str, newest: u64) -> Result<u64, String> {
+    let ours = format!("durpaxeta {form} {newest}");
+    let said = title.strip_prefix(&format!("durpaxeta {form} ")).filter(|said| !said.starts_with('0'));
+    match said.and_then(number) {
+        Some(version) if version <= newest => Ok(version),
+        Some(_) => Err(format!(
+            "written by a later durpaxeta: it begins with \"{title}\", and \"{ours}\" is the newest that is read here"
+        )),
+        None => Err(format!("the first line of a {form} is \"{ours}\"; this one is something else")),
+    }
+}
+
 /// Reads a shape: `2x3`. One that the library refuses is shown as it was typed.
 pub fn shape(text: &str) -> Result<Vec<u64>, Failure> {
     let sides = text.split(['x', 'X', '×']).map(|side| number(side.trim())).collect::<Option<Vec<u64>>>();
@@ -136,6 +149,18 @@ mod tests {
         assert_eq!(shape_text(&[2, 3]), "2x3");
         for text in ["", "x", "2x", "2,3", "-1", "+2", "2.0", "two"] {
             assert_eq!(shape(text).unwrap_err().status(), 64, "{text}");
+        }
+    }
+
+    #[test]
+    fn versions_of_titles() {
+        let of = |title: &str| version(title, "working table", 2);
+        assert_eq!((of("durpaxeta working table 1"), of("durpaxeta working table 2")), (Ok(1), Ok(2)));
+        for title in ["durpaxeta working table 3", "durpaxeta working table 99999999999999999999"] {
+            assert!(of(title).unwrap_err().starts_with("written by a later durpaxeta: "), "{title}");
+        }
+        for title in ["", "durpaxeta working table", "durpaxeta working table 0", "durpaxeta working table 01", "3"] {
+            assert!(of(title).unwrap_err().ends_with("this one is something else"), "{title}");
         }
     }
 

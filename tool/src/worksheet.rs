@@ -19,15 +19,35 @@
 use crate::failure::Failure;
 use crate::literal::{self, hex_byte, word};
 use crate::words;
-use durpaxeta::{Array, Cell, Kind, Mark, Refusal, Values};
+use durpaxeta::{Array, Cell, Kind, Mark, Order, Refusal, Values};
 use std::fmt::Write;
 
-const TITLE: &str = "durpaxeta worksheet 1";
+/// The version of this form.
+const VERSION: u64 = 1;
 
 /// The table as a worksheet; with values in hex only where that is asked for.
 pub fn write(array: &Array, hex: bool) -> String {
-    let mut text = format!("{TITLE}\nkind: {}\nshape: {}\n", array.kind, words::shape_text(&array.shape));
-    text.push_str("# cell | mask of each level | null: not set, and at which level; value \"\": set, with no bytes\n");
+    sheet(array, hex, "not set")
+}
+
+/// What a guest sees of a table; a cell that is hidden from it reads as null, too.
+pub fn write_seen(array: &Array, hex: bool) -> String {
+    sheet(array, hex, "hidden or not set")
+}
+
+fn sheet(array: &Array, hex: bool, null: &str) -> String {
+    let (kind, shape) = (array.kind, words::shape_text(&array.shape));
+    let mut text = format!("durpaxeta worksheet {VERSION}\nkind: {kind}\nshape: {shape}\n");
+    let _ = writeln!(
+        text,
+        "# cell | mask of each level | null: {null}, and at which level; value \"\": set, with no bytes"
+    );
+    if let Values::Fixed { size: 2.., order: Order::Big } = array.kind.values {
+        text.push_str(
+            "# big order: the bytes of a value stand here as in memory, and are stored the other way round, ",
+        );
+        text.push_str("the last one first\n");
+    }
     let fixed = !array.kind.is_ragged();
     let count = array.cell_count();
     let width = if count > 0 { words::coordinates(&array.shape, count - 1).len() } else { 0 };
@@ -65,12 +85,9 @@ pub fn read(name: &str, bytes: &[u8]) -> Result<Array, Failure> {
         }
         if titled {
             reader.line(line)?;
-        } else if line == TITLE {
-            titled = true;
         } else {
-            return Err(
-                reader.wrong(format!("the first line of a worksheet is \"{TITLE}\"; this one is something else"))
-            );
+            words::version(line, "worksheet", VERSION).map_err(|what| reader.wrong(what))?;
+            titled = true;
         }
     }
     if !titled {
@@ -277,7 +294,7 @@ impl Reader<'_> {
 #[cfg(test)]
 mod tests {
     use super::*;
-    use durpaxeta::{Order, Place, Width};
+    use durpaxeta::{Place, Width};
 
     fn sheet(kind: &str, shape: &str, cells: &[&str]) -> String {
         format!("{TITLE}\nkind: {kind}\nshape: {shape}\n{}\n", cells.join("\n"))
@@ -287,6 +304,7 @@ mod tests {
         read("sheet", text.as_bytes()).unwrap_err().status()
     }
 
+    const TITLE: &str = "durpaxeta worksheet 1";
     const RAGGED: &str = "depth 2, ragged, width 4, index at start";
     const FLAT: &str = "depth 0, ragged, width 8, index at end";
     const FIXED: &str = "depth 1, fixed, size 2, little order";

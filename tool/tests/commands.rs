@@ -4,10 +4,7 @@ mod common;
 
 use common::*;
 use std::fs;
-use std::io::Write;
 use std::path::Path;
-use std::thread;
-use std::time::Duration;
 
 #[test]
 fn the_affinity_table() {
@@ -73,6 +70,33 @@ fn shown_and_written_again() {
             assert_eq!((again.status, &again.out), (0, &stored.out), "{}", shown.text());
         }
     }
+}
+
+/// In big order the bytes of a value are stored the other way round; help, page and worksheet say so where somebody types them.
+#[test]
+fn big_order_is_said() {
+    let folder = folder("big");
+    let says = "# big order: the bytes of a value stand here as in memory, and are stored the other way round, the last one first\n";
+    for (kind, stored, said) in [
+        ("depth 0, fixed, size 2, big order", &[2, 1][..], true),
+        ("depth 0, fixed, size 2, little order", &[1, 2], false),
+        ("depth 0, fixed, size 1, big order", &[1], false),
+        ("depth 0, ragged, width 4, index at start", &[8, 0, 0, 0, 0, 0, 0, 0, 0, 0, 0, 0, 2, 0, 0, 0, 1, 2], false),
+    ] {
+        let value = if stored.len() == 1 { "01" } else { "01 02" };
+        let sheet = format!("durpaxeta worksheet 1\nkind: {kind}\nshape: 1\n0 | - | value hex {value}\n");
+        let written = run(&folder, &["write", "-", "-"], sheet.as_bytes());
+        assert_eq!((written.status, &written.out[..]), (0, stored), "{kind}");
+        let shown = run(&folder, &["show", "--kind", kind, "--shape", "1", "-"], stored);
+        assert!(shown.text().ends_with(&format!("\n0 | - | value hex {value}\n")), "{}", shown.text());
+        assert_eq!(shown.text().contains(says), said, "{}", shown.text());
+        assert_eq!(run(&folder, &["write", "-", "-"], &shown.out).out, stored);
+    }
+    for page in ["show", "write"] {
+        let help = good(&folder, &["help", page]);
+        assert!(help.text().replace('\n', " ").contains("in big order value hex 01 02 is stored as 02 01"), "{page}");
+    }
+    prints_what_the_page_says("1", 3);
 }
 
 #[test]
@@ -392,6 +416,104 @@ fn wrong_command_lines() {
     }
 }
 
+/// An option without its value takes no other option for it.
+#[test]
+fn a_value_that_is_missing() {
+    let folder = folder("no-value");
+    for (line, lacks) in [
+        (&["show", "--kind", "--shape", "2x2", "f"][..], "--kind has no value behind it: --shape is an option"),
+        (&["show", "--shape", "--kind=x", "f"], "--shape has no value behind it: --kind=x is an option"),
+        (&["show", "--kind", "-h"], "--kind has no value behind it: -h is an option"),
+        (&["show", "f", "--kind", "--", "g"], "--kind has no value behind it: -- is an option"),
+        (&["show", "f", "--kind"], "--kind has no value behind it"),
+        (&["cut", "--subset", "--describe", "a", "b"], "--subset has no value behind it: --describe is an option"),
+        (
+            &["guest", "show", "--rights-file", "--rights", "1", "f"],
+            "--rights-file has no value behind it: --rights is an option",
+        ),
+        (&["merge", "--part", "--shape", "2", "b", "out"], "--part has no value behind it: --shape is an option"),
+        (
+            &["merge", "--part", "0..1", "--part", "1..2", "b", "out"],
+            "--part 0..1 has no file behind it: --part is an option",
+        ),
+        (&["merge", "--part", "0..1"], "--part 0..1 has no file behind it"),
+    ] {
+        let said = run(&folder, line, b"");
+        let told = format!("durpaxeta: {lacks}\nSee 'durpaxeta help {}'.\n", line[0]);
+        assert_eq!((said.status, said.err), (64, told), "{line:?}");
+    }
+    // A value may begin with a dash; standard input is one.
+    let said = run(&folder, &["generate", "--kind", KIND, "--shape", "2", "--start", "-1", "out"], b"");
+    assert!(said.err.contains("\"-1\" is no start number"), "{}", said.err);
+    let said = run(&folder, &["guest", "show", "--rights-file", "-", "none"], b"1");
+    assert!(said.err.contains("--kind is missing"), "{}", said.err);
+}
+
+/// A text of a version to come is told as that; one that is none at all is told as before.
+#[test]
+fn a_later_version() {
+    let folder = folder("later");
+    affinity(&folder);
+    for (title, newest, status, line) in [
+        ("durpaxeta worksheet", 1, 65, &["write", "text", "no"][..]),
+        ("durpaxeta working table", 2, 65, &["table", "show", "text"]),
+        ("durpaxeta working table", 2, 65, &["table", "pack", "--most", "1", "text", "no"]),
+        ("durpaxeta description", 1, 66, &["show", "guests.bin"]),
+    ] {
+        let file = if status == 66 { "guests.bin.dpx" } else { "text" };
+        for (version, later) in [
+            (&*(newest + 1).to_string(), true),
+            ("10", true),
+            ("18446744073709551616", true),
+            ("0", false),
+            ("01", false),
+            ("one", false),
+            ("-1", false),
+            ("", false),
+        ] {
+            fs::write(folder.join(file), format!("# a title\n{title} {version}\nlines: that nobody knows\n")).unwrap();
+            let said = run(&folder, line, b"");
+            assert_eq!((said.status, said.text()), (status, ""), "{title} {version}");
+            let told = match later {
+                true => format!("written by a later durpaxeta: it begins with \"{title} {version}\", and \"{title} {newest}\" is the newest that is read here\n"),
+                false => format!("is \"{title} {newest}\"; this one is something else\n"),
+            };
+            assert!(said.err.ends_with(&told), "{title} {version}: {}", said.err);
+        }
+        let _ = fs::remove_file(folder.join("guests.bin.dpx"));
+    }
+}
+
+/// First what exactly is wrong, then what the number means of anything.
+#[test]
+fn the_telling_line_comes_first() {
+    let folder = folder("telling");
+    affinity(&folder);
+    let table = format!("durpaxeta working table 1\nkind: {KIND}\nshape: 1\nstore: 4\n0 | 01 00 | start 0, length 2\n");
+    let kind = "depth 5, ragged, width 4, index at start";
+    for (line, says, number) in [
+        (&["show", "--kind", kind, "--shape", "1", "f"][..], "--kind: refusal 1: The kind is depth 5, ragged, width 4, index at start.", 1),
+        (&["show", "--kind", KIND, "--shape", "0", "f"], "--shape: refusal 2: The shape is 0.", 2),
+        (&["table", "show", "-"], "standard input: refusal 4: Cell 0 is null at level 2, and has 2 bytes.", 4),
+        (
+            &["guest", "show", "--rights", "1", "--kind", KIND, "--shape", "2x2", "guests.bin"],
+            "--rights: refusal 4: The plane has 1 cell; the table is 2x2 and has 4.",
+            4,
+        ),
+        (
+            &["show", "--kind", KIND, "--shape", "2", "guests.bin"],
+            "guests.bin: refusal 8: Reading stopped at byte 0 of 64: the mask length of level 1 says 4; that level has 2 cells.",
+            8,
+        ),
+    ] {
+        let said = run(&folder, line, table.as_bytes());
+        let lines: Vec<&str> = said.err.lines().collect();
+        assert_eq!((said.status, lines[0]), (number, &*format!("durpaxeta: {says}")), "{}", said.err);
+        assert!(lines[1].starts_with(&format!("  {number} means: ")), "{}", said.err);
+        assert!(lines[2].starts_with("  Caused by whoever ") && lines.len() == 3, "{}", said.err);
+    }
+}
+
 #[test]
 fn errors_of_the_operating_system() {
     let folder = folder("system");
@@ -443,7 +565,7 @@ fn the_largest_tables() {
         stored = [le(&[65_536, stored.len() as u64], 8, &masks), stored].concat();
     }
     let shown = run(&folder, &["show", "--kind", kind, "--shape", "256x256", "-"], &stored);
-    assert_eq!((shown.status, shown.text().lines().count()), (0, 65_536 + 4));
+    assert_eq!((shown.status, shown.text().lines().count()), (0, 65_536 + 5));
     let again = run(&folder, &["write", "-", "-"], &shown.out);
     assert!(again.status == 0 && again.out == stored);
 
@@ -465,21 +587,6 @@ fn the_largest_tables() {
     }
 }
 
-#[test]
-fn progress_after_a_second() {
-    let folder = folder("progress");
-    let mut child = piped(&folder, &["check", "--kind", "depth 0, fixed, size 1, little order", "--shape", "4", "-"]);
-    let mut stdin = child.stdin.take().unwrap();
-    stdin.write_all(&[1, 2, 3]).unwrap();
-    thread::sleep(Duration::from_millis(1700));
-    stdin.write_all(&[4]).unwrap();
-    drop(stdin);
-    let out = child.wait_with_output().unwrap();
-    assert_eq!(out.status.code(), Some(0));
-    let err = String::from_utf8(out.stderr).unwrap();
-    assert!(err.contains("durpaxeta: reading standard input: 3 bytes so far"), "{err}");
-}
-
 /// Every example of every help page, line by line, in an empty folder.
 #[test]
 fn help_examples_work_as_printed() {
@@ -488,7 +595,7 @@ fn help_examples_work_as_printed() {
     assert_eq!(run(Path::new("."), &["help"], b"").out, general.out);
     assert!(run(Path::new("."), &["--version"], b"").text().starts_with("durpaxeta "));
     assert!(general.text().contains("'durpaxeta help COMMAND'"));
-    for status in [64, 65, 66, 67, 68, 69, 71, 73, 74] {
+    for status in [64, 65, 66, 67, 68, 69, 71, 73, 74, 141] {
         assert!(general.text().contains(&status.to_string()), "status {status} is not on the page");
     }
     let mut pages = vec![("durpaxeta".to_string(), general.text().to_string())];

@@ -103,12 +103,12 @@ fn tables_and_guests_take_it() {
         assert_eq!(status(&folder, &[line, &["--shape", "4"], files].concat()).0, 67, "{line:?}");
     };
     same(&["table", "make", "--store", "12"], &["guests.bin", "work.txt"]);
-    same(&["guest", "show", "--rights", "1010"], &["guests.bin"]);
-    same(&["guest", "read", "--rights", "1010", "--describe"], &["guests.bin", "own.bin"]);
+    same(&["guest", "show", "--rights", "1,0,1,0"], &["guests.bin"]);
+    same(&["guest", "read", "--rights", "1,0,1,0", "--describe"], &["guests.bin", "own.bin"]);
     assert!(good(&folder, &["check", "own.bin"]).text().contains("2x2, 4 cells: 3 null at level 1"));
     // What a guest reads of a part is that part.
     good(&folder, &["cut", "--subset", "1..2,0..2", "--describe", "guests.bin", "row1.bin"]);
-    good(&folder, &["guest", "read", "--rights", "11", "--describe", "row1.bin", "own.bin"]);
+    good(&folder, &["guest", "read", "--rights", "1,1", "--describe", "row1.bin", "own.bin"]);
     let read = |name: &str| fs::read(folder.join(name)).unwrap();
     assert_eq!(read("own.bin.dpx"), read("row1.bin.dpx"));
     // A listing says its kind and shape itself, and takes no place that is described.
@@ -121,7 +121,7 @@ fn tables_and_guests_take_it() {
     for (line, files) in [
         (&["table", "set", "--cell", "0,0", "--to", "value \"\""][..], ["work.txt", "own.bin"]),
         (&["table", "pack", "--most", "1"], ["work.txt", "own.bin"]),
-        (&["guest", "edit", "--rights", "1010", "--cell", "0,0", "--to", "value \"\""], ["work.txt", "own.bin"]),
+        (&["guest", "edit", "--rights", "1,0,1,0", "--cell", "0,0", "--to", "value \"\""], ["work.txt", "own.bin"]),
     ] {
         assert_eq!(status(&folder, &[line, &files].concat()).0, 64, "{line:?}");
     }

@@ -211,10 +211,10 @@ fn json_lines() {
     let folder = folder("json");
     affinity(&folder);
     let said = good(&folder, &["show", "--json", "--kind", KIND, "--shape", "2x2", "guests.bin"]);
-    let wanted = r#"{"cell":[0,0],"masks":[1,1],"value":{"text":"0-3,8","hex":"302D332C38"}}
-{"cell":[0,1],"masks":[1,1],"value":{"text":"","hex":""}}
-{"cell":[1,0],"masks":[0,0],"null":1}
-{"cell":[1,1],"masks":[1,0],"null":2}
+    let wanted = r#"{"is":"value","cell":[0,0],"masks":[1,1],"value":{"text":"0-3,8","hex":"302D332C38"}}
+{"is":"empty","cell":[0,1],"masks":[1,1],"value":{"text":"","hex":""}}
+{"is":"null","cell":[1,0],"masks":[0,0],"null":1}
+{"is":"null","cell":[1,1],"masks":[1,0],"null":2}
 "#;
     assert_eq!(said.text(), wanted);
     let stored = le(&[12], 8, &le(&[0, 1, 3], 4, b"\xFFbb"));
@@ -223,7 +223,7 @@ fn json_lines() {
     assert_eq!((said.status, said.err.as_str()), (0, ""));
     assert_eq!(
         said.text(),
-        "{\"cell\":[0],\"masks\":[],\"value\":{\"text\":null,\"hex\":\"FF\"}}\n\
-         {\"cell\":[1],\"masks\":[],\"value\":{\"text\":\"bb\",\"hex\":\"6262\"}}\n"
+        "{\"is\":\"value\",\"cell\":[0],\"masks\":[],\"value\":{\"text\":null,\"hex\":\"FF\"}}\n\
+         {\"is\":\"value\",\"cell\":[1],\"masks\":[],\"value\":{\"text\":\"bb\",\"hex\":\"6262\"}}\n"
     );
 }

@@ -38,7 +38,7 @@ fn shown_and_stored() {
     ];
     assert_eq!(cells(&shown), first);
     // The other guest's: an empty value and a null at level 2 stay what they are.
-    let other = good(&folder, &["guest", "show", "--rights=01 01", "guests.bin"]);
+    let other = good(&folder, &["guest", "show", "--rights=0,1,0,1", "guests.bin"]);
     let second = [
         "0,0 | 00 00 | null at level 1",
         "0,1 | 01 01 | value \"\"",
@@ -47,18 +47,28 @@ fn shown_and_stored() {
     ];
     assert_eq!(cells(&other), second);
     assert!(!other.text().contains("0-3,8"));
-    let all = good(&folder, &["guest", "show", "--rights", "1111", "guests.bin"]);
-    assert_eq!(all.out, good(&folder, &["show", "guests.bin"]).out);
+    let all = good(&folder, &["guest", "show", "--rights", "1,1,1,1", "guests.bin"]);
+    assert_eq!(cells(&all), cells(&good(&folder, &["show", "guests.bin"])));
 
     let kind = ["--kind", KIND, "--shape", "2x2"];
     let hex = good(&folder, &[&["guest", "show", "--hex", "--rights", FIRST][..], &kind, &["guests.bin"]].concat());
     assert_eq!(cells(&hex)[0], "0,0 | 01 01 | value hex 30 2D 33 2C 38");
     let json = good(&folder, &["guest", "show", "--json", "--rights", FIRST, "guests.bin"]);
-    assert_eq!(json.text().lines().nth(1), Some(r#"{"cell":[0,1],"masks":[0,0],"null":1}"#));
+    assert_eq!(json.text().lines().nth(1), Some(r#"{"is":"null","cell":[0,1],"masks":[0,0],"null":1}"#));
+    // What a guest is shown as null may be hidden; what anybody else is shown, is not set.
+    let head = |said: &Said| said.text().lines().nth(3).unwrap().to_string();
+    for more in [&[][..], &["--hex"]] {
+        let said = good(&folder, &[&["guest", "show", "--rights", FIRST][..], more, &["guests.bin"]].concat());
+        let says =
+            "# cell | mask of each level | null: hidden or not set, and at which level; value \"\": set, with no bytes";
+        assert_eq!(head(&said), says);
+    }
+    assert!(head(&good(&folder, &["show", "guests.bin"])).contains("| null: not set, and at which level;"));
+    assert_eq!(run(&folder, &["write", "-", "-"], &all.out).out, fs::read(folder.join("guests.bin")).unwrap());
 
     // What is stored is what is shown.
     good(&folder, &["guest", "read", "--rights", FIRST, "--describe", "guests.bin", "own.bin"]);
-    assert_eq!(good(&folder, &["show", "own.bin"]).out, shown.out);
+    assert_eq!(cells(&good(&folder, &["show", "own.bin"])), first);
     assert_eq!(run(&folder, &["write", "-", "-"], &shown.out).out, fs::read(folder.join("own.bin")).unwrap());
     let read = [&["guest", "read", "--rights", FIRST][..], &kind, &["-", "-"]].concat();
     let stored = run(&folder, &read, &fs::read(folder.join("guests.bin")).unwrap());
@@ -100,7 +110,7 @@ fn edited() {
         assert_eq!((edited.status, edited.text()), (0, set.text()), "{}", edited.err);
     }
     // It packs where too little is left, and so moves a cell that is hidden; what that one has stays.
-    for (plane, cell, to) in [("0101", "0,1", "value \"4-7\""), (FIRST, "0,0", "value \"12345678\"")] {
+    for (plane, cell, to) in [("0,1,0,1", "0,1", "value \"4-7\""), (FIRST, "0,0", "value \"12345678\"")] {
         let said = edit(&folder, plane, cell, to, "next.txt");
         assert_eq!((said.status, said.err.as_str()), (0, ""));
         fs::rename(folder.join("next.txt"), folder.join("work.txt")).unwrap();
@@ -123,7 +133,7 @@ fn edited() {
         (hidden.status, hidden.err.as_str()),
         (
             18,
-            "durpaxeta: work.txt: refusal 18: the rights plane hides that cell from the guest.\n  --rights has 0 for cell 0,1.\n  \
+            "durpaxeta: work.txt: refusal 18: --rights has 0 for cell 0,1.\n  18 means: the rights plane hides that cell from the guest.\n  \
              Caused by whoever sets the cell.\n"
         )
     );
@@ -153,19 +163,19 @@ fn what_is_refused() {
         (
             with(vec!["show", "--rights", "1"], &flat),
             17,
-            "flat.bin: refusal 17: the kind has no masks, and only a mask",
+            "flat.bin: refusal 17: The kind is depth 0, ragged, width 4, index at start.\n  17 means: the kind has no masks, and only",
         ),
         (
-            with(vec!["show", "--rights", "101"], &byte),
+            with(vec!["show", "--rights", "1,0,1"], &byte),
             17,
-            "The kind is depth 0, fixed, size 1, little order.\n  Caused by whoever",
+            "The kind is depth 0, fixed, size 1, little order.\n  17 means: ",
         ),
         (with(edit("1", "0"), &["flat.txt", "no"]), 17, "flat.txt: refusal 17: "),
         (with(edit("1", "0"), &["flat.txt", "no"]), 17, "The kind is depth 0, ragged, width 4, index at start.\n"),
         (vec!["show", "--rights", "1,0,1", "guests.bin"], 4, "durpaxeta: --rights: refusal 4: "),
         (vec!["show", "--rights", "1,0,1", "guests.bin"], 4, "The plane has 3 cells; the table is 2x2 and has 4.\n"),
         (
-            vec!["read", "--rights", "10101", "guests.bin", "keep.bin"],
+            vec!["read", "--rights", "1,0,1,0,1", "guests.bin", "keep.bin"],
             4,
             "The plane has 5 cells; the table is 2x2 and has 4.\n",
         ),
@@ -179,7 +189,7 @@ fn what_is_refused() {
             "Caused by whoever hands over the array, chunk list, working table or rights plane.\n",
         ),
         (with(edit(FIRST, "2,0"), &["work.txt", "no"]), 15, "The table is 2x2; cell 2,0 is none of it"),
-        (with(edit("0111", "0,0"), &["work.txt", "no"]), 18, "--rights has 0 for cell 0,0.\n"),
+        (with(edit("0,1,1,1", "0,0"), &["work.txt", "no"]), 18, "--rights has 0 for cell 0,0.\n"),
         (
             vec!["edit", "--rights-file", "plane.txt", "--cell", "0,1", "--to", "null at level 1", "work.txt", "no"],
             18,
@@ -244,9 +254,13 @@ fn planes_in_files() {
     let folder = prepared("guest-planes");
     let show = |file: &str, plane: &[u8]| run(&folder, &["guest", "show", "--rights-file", file, "guests.bin"], plane);
     let shown = good(&folder, &["guest", "show", "--rights", FIRST, "guests.bin"]);
-    for text in
-        ["1,0,1,0", "1010\n", "# guest 0\n\n1 0 # host 0\n1 0 # host 1\n", "\u{FEFF}1,0\r\n1,0\r\n", "1\n0\n1\n0\n# 7"]
-    {
+    for text in [
+        "1,0,1,0",
+        "1 0\t1 0\n",
+        "# guest 0\n\n1 0 # host 0\n1 0 # host 1\n",
+        "\u{FEFF}1,0\r\n1,0\r\n",
+        "1\n0\n1\n0\n# 7",
+    ] {
         fs::write(folder.join("plane.txt"), text).unwrap();
         let said = show("plane.txt", b"");
         assert_eq!((said.status, said.text()), (0, shown.text()), "{text:?}: {}", said.err);
@@ -276,6 +290,41 @@ fn planes_in_files() {
     assert_eq!(run(&folder, &line, &table).text(), shown.text());
 }
 
+/// What could be another plane, too, is none: the digits of two cells stand apart. Both readings are said.
+#[test]
+fn one_notation() {
+    let folder = prepared("guest-notation");
+    let before = contents(&folder);
+    for (plane, readings) in [
+        ("00 01", "0,0,0,1 (4 cells), or 0,1 (2 cells, a byte each)"),
+        ("0001", "0,0,0,1 (4 cells), or 0,1 (2 cells, a byte each)"),
+        ("01,00,01,00", "0,1,0,0,0,1,0,0 (8 cells), or 1,0,1,0 (4 cells, a byte each)"),
+        ("1,00,1", "1,0,0,1 (4 cells), or 1,0,1 (3 cells, a byte each)"),
+        ("01", "0,1 (2 cells), or 1 (1 cell, a byte each)"),
+        ("1010", "1,0,1,0 (4 cells)"),
+        ("10 10", "1,0,1,0 (4 cells)"),
+        ("1,0,10", "1,0,1,0 (4 cells)"),
+    ] {
+        let wanted = format!("the rights plane has digits with nothing between; write {readings}\n");
+        for (arguments, status) in [
+            (&["show", "--rights", plane, "guests.bin"][..], 64),
+            (&["show", "--rights-file", "-", "guests.bin"], 65),
+            (&["read", "--rights", plane, "guests.bin", "no"], 64),
+            (&["edit", "--rights", plane, "--cell", "0,0", "--to", "value \"\"", "work.txt", "no"], 64),
+        ] {
+            let said = run(&folder, &[&["guest"][..], arguments].concat(), format!("#\n{plane} # x\n").as_bytes());
+            assert_eq!((said.status, said.text()), (status, ""), "{arguments:?}: {}", said.err);
+            assert!(said.err.contains(&wanted), "{arguments:?}: {}", said.err);
+            assert_eq!(said.err.contains("standard input, line 2: the"), status == 65, "{}", said.err);
+        }
+    }
+    // Of a long one both counts are said, and the first cells.
+    let said = run(&folder, &["guest", "show", "--rights", &"01".repeat(500), "guests.bin"], b"");
+    assert!(said.err.contains(",0,1,.. (1000 cells), or 1,1,"), "{}", said.err);
+    assert!(said.err.contains(",1,.. (500 cells, a byte each)") && said.err.len() < 400, "{}", said.err);
+    assert!(contents(&folder) == before);
+}
+
 /// As many cells as there can be, on the command line and in a file with one a line.
 #[test]
 fn the_largest_plane() {
@@ -285,7 +334,8 @@ fn the_largest_plane() {
     let plane: String = (0..65_536).map(|cell| if cell % 256 == 7 { '1' } else { '0' }).collect();
     fs::write(folder.join("plane.txt"), plane.replace('0', "0\n").replace('1', "1\n")).unwrap();
     let all = good(&folder, &["show", "load.bin"]);
-    let seen = good(&folder, &["guest", "show", "--rights", &plane, "load.bin"]);
+    let listed: Vec<&str> = plane.split_terminator("").skip(1).collect();
+    let seen = good(&folder, &["guest", "show", "--rights", &listed.join(","), "load.bin"]);
     assert_eq!(good(&folder, &["guest", "show", "--rights-file", "plane.txt", "load.bin"]).out, seen.out);
     let mut own = 0;
     for (wanted, line) in cells(&all).into_iter().zip(cells(&seen)) {

@@ -4,7 +4,7 @@ mod common;
 
 use common::*;
 use std::fs::{self, Permissions};
-use std::io::{BufRead, BufReader, Read, Write};
+use std::io::{Read, Write};
 use std::os::unix::fs::{symlink, MetadataExt, PermissionsExt};
 use std::os::unix::process::{CommandExt, ExitStatusExt};
 use std::path::Path;
@@ -125,8 +125,13 @@ fn outputs_that_are_no_files() {
 
 /// Starts a line; signals have their usual meaning in it, whatever they have here.
 fn start(folder: &Path, arguments: &[&str]) -> Child {
+    start_telling(folder, arguments, Stdio::piped())
+}
+
+fn start_telling(folder: &Path, arguments: &[&str], error: Stdio) -> Child {
     let mut command = Command::new(TOOL);
-    command.args(arguments).current_dir(folder).stdin(Stdio::null()).stdout(Stdio::null()).stderr(Stdio::piped());
+    command.args(arguments).current_dir(folder).env("TERM", "xterm");
+    command.stdin(Stdio::null()).stdout(Stdio::null()).stderr(error);
     // SAFETY: `signal` may be called between fork and exec.
     unsafe {
         command.pre_exec(|| {
@@ -238,19 +243,23 @@ fn a_second_writer_waits() {
     let folder = prepared("turns", 8_000_000);
     let mut first = stopped_cut(&folder, &["--describe", "long.bin", "keep.bin"]);
     let before = fs::read(folder.join("keep.bin")).unwrap();
-    let write = |out: &str| start(&folder, &["write", "--describe", "guests.txt", out]);
+    let write = |out: &str| {
+        let (shows, has) = terminal();
+        (shows, start_telling(&folder, &["write", "--describe", "guests.txt", out], has.into()))
+    };
     let mut waiting = [write("keep.bin"), write("keep.bin")];
     // Another file has another turn.
-    assert!(write("other.bin").wait().unwrap().success());
-    for child in &mut waiting {
-        let told = BufReader::new(child.stderr.take().unwrap()).lines().map(|line| line.unwrap());
-        let begin = "durpaxeta: writing keep.bin, behind another command that writes it: ";
-        let line = told.into_iter().find(|line| line.starts_with(begin)).expect("it waits and tells nothing");
-        assert!(line.ends_with(" looks so far"), "{line}");
+    assert!(write("other.bin").1.wait().unwrap().success());
+    for (shows, _) in &mut waiting {
+        let told = "durpaxeta: waiting for another command that writes keep.bin";
+        let all = shown(shows, Some(told));
+        assert!(all.contains(told), "{all:?}");
     }
-    let [mut stopped, mut second] = waiting;
+    let [(mut shows, mut stopped), (_shows, mut second)] = waiting;
     send(&stopped, 15);
     assert_eq!(stopped.wait().unwrap().signal(), Some(15));
+    let all = shown(&mut shows, None);
+    assert!(all.ends_with(ERASED), "{all:?}");
     assert!(first.try_wait().unwrap().is_none() && second.try_wait().unwrap().is_none());
     assert!(fs::read(folder.join("keep.bin")).unwrap() == before);
     send(&first, SIGCONT);
@@ -299,42 +308,88 @@ fn an_ignored_signal_stays_ignored() {
 
 // ----------------------------------------------------------------------------------------------- readers that left
 
-/// Runs a line whose reader has left before anything was written. A child that another test is starting may hold the reader's end
-/// for a moment yet: then what is written is delivered and nothing is said, and the line runs again.
+/// Runs a line whose reader has left before anything was written; answers its status and what it told. A child that another test is
+/// starting may hold the reader's end for a moment yet: then what is written is delivered, with status 0, and the line runs again.
 fn unread(folder: &Path, arguments: &[&str], input: &[u8]) -> (Option<i32>, String) {
     for _ in 0..100 {
         let mut child = piped(folder, arguments);
         drop(child.stdout.take());
         child.stdin.take().unwrap().write_all(input).unwrap();
         let out = child.wait_with_output().unwrap();
-        if !out.stderr.is_empty() {
+        if out.status.code() != Some(0) {
             return (out.status.code(), told(out.stderr));
         }
     }
     panic!("what was written always found a reader");
 }
 
+/// As any tool before `head`: what is not read is not written, and nothing is told; the status is that of a command that SIGPIPE ended.
+#[test]
+fn a_reader_that_leaves_is_no_error() {
+    let folder = prepared("head", 10);
+    good(&folder, &["write", "--describe", "guests.txt", "described.bin"]);
+    good(&folder, &["generate", "--kind", KIND, "--shape", "256x256", "--start", "7", "--describe", "load.bin"]);
+    good(&folder, &["table", "make", "--store", "99", "described.bin", "work.txt"]);
+    fs::write(folder.join("plane.txt"), "1\n".repeat(65_536)).unwrap();
+    for (line, first) in [
+        ("show load.bin", "durpaxeta worksheet 1\n"),
+        ("show --json load.bin", "{\"is\":\"null\",\"cell\":[0,0],\"masks\":[0,0],\"null\":1}\n"),
+        ("guest show --rights-file plane.txt load.bin", "durpaxeta worksheet 1\n"),
+        ("explain load.bin", "load.bin: depth 2, ragged, width 4, index at start; 256x256; 407884 bytes\n"),
+    ] {
+        let said = sh(&folder, &format!("{{ durpaxeta {line}; echo status $? >&2; }} | head -n 1"));
+        let status = if line.starts_with("explain") { 0 } else { 141 };
+        assert_eq!((said.text(), &said.err), (first, &format!("status {status}\n")), "{line}");
+    }
+    for words in [
+        &["show", "described.bin"][..],
+        &["show", "--json", "described.bin"],
+        &["check", "described.bin"],
+        &["same", "described.bin", "described.bin"],
+        &["explain", "described.bin"],
+        &["write", "guests.txt", "-"],
+        &["cut", "--subset", "0..1,0..2", "described.bin", "-"],
+        &["merge", "--shape", "2x2", "--part", "0..2,0..2", "described.bin", "-"],
+        &["generate", "--kind", KIND, "--shape", "2x2", "--start", "1", "-"],
+        &["table", "make", "--store", "9", "described.bin", "-"],
+        &["table", "show", "work.txt"],
+        &["table", "set", "--cell", "0,0", "--to", "null at level 1", "work.txt", "/dev/stdout"],
+        &["table", "preview", "--cell", "0,0", "--to", "null at level 1", "work.txt"],
+        &["table", "pack", "--most", "1", "work.txt", "-"],
+        &["guest", "show", "--rights", "1,1,1,1", "described.bin"],
+        &["guest", "read", "--rights", "1,1,1,1", "described.bin", "-"],
+        &["guest", "edit", "--rights", "1,1,1,1", "--cell", "0,0", "--to", "null at level 1", "work.txt", "-"],
+        &["example"],
+        &["help"],
+        &["help", "show"],
+        &["--version"],
+    ] {
+        assert_eq!(unread(&folder, words, b""), (Some(141), String::new()), "{words:?}");
+    }
+    // The reader of a named pipe is another matter: OUT was not written.
+    let said = sh(&folder, "mkfifo pipe; head -c 1 pipe > first & durpaxeta cut --subset 0..256,0..256 load.bin pipe");
+    assert_eq!((said.status, said.err.as_str()), (74, "durpaxeta: cannot write pipe: whoever reads it has left\n"));
+}
+
 #[test]
 fn a_refusal_keeps_its_status_when_the_reader_leaves() {
     let folder = prepared("left", 10);
     let stored = fs::read(folder.join("guests.bin")).unwrap();
-    let told = "durpaxeta: cannot write standard output: whoever reads it has left\n".to_string();
+    let nothing = String::new();
     for command in ["check", "explain"] {
         let line = [command, "--kind", KIND, "--shape", "2x2", "-"];
         for _ in 0..10 {
-            assert_eq!(unread(&folder, &line, &stored[..63]), (Some(8), told.clone()));
+            assert_eq!(unread(&folder, &line, &stored[..63]), (Some(8), nothing.clone()));
         }
-        assert_eq!(unread(&folder, &line, &stored), (Some(74), told.clone()), "what is valid was not delivered");
+        assert_eq!(unread(&folder, &line, &stored), (Some(141), nothing.clone()), "what is valid was not delivered");
     }
     let same = ["same", "--kind", KIND, "--shape", "2x2", "guests.bin", "-"];
     let other = [&stored[..63], b"9"].concat();
-    for (input, status) in [(&stored[..63], 8), (&other, 71), (&stored, 74)] {
-        assert_eq!(unread(&folder, &same, input), (Some(status), told.clone()));
+    for (input, status) in [(&stored[..63], 8), (&other, 71), (&stored, 141)] {
+        assert_eq!(unread(&folder, &same, input), (Some(status), nothing.clone()));
     }
-    assert_eq!(unread(&folder, &["show", "--kind", KIND, "--shape", "2x2", "-"], &stored), (Some(74), told.clone()));
-    assert_eq!(unread(&folder, &["show", "--kind", KIND, "--shape", "2x2", "-"], &stored[..63]).0, Some(8));
-    let cut = ["cut", "--kind", KIND, "--shape", "2x2", "--subset", "0..1,0..2", "-", "-"];
-    assert_eq!(unread(&folder, &cut, &stored), (Some(74), told));
+    let (status, told) = unread(&folder, &["show", "--kind", KIND, "--shape", "2x2", "-"], &stored[..63]);
+    assert!(status == Some(8) && told.starts_with("durpaxeta: standard input: refusal 8: "), "{told}");
 }
 
 #[test]
@@ -400,7 +455,7 @@ fn no_input_of_any_command_is_replaced() {
     good(&folder, &[&["cut"][..], &row, &["0..1,0..2", "guests.bin", "row0.bin"]].concat());
     good(&folder, &[&["cut"][..], &row, &["1..2,0..2", "guests.bin", "row1.bin"]].concat());
     fs::write(folder.join("old.bin"), [1, 0, 0, 0, 1, 0, 0, 0, b'A']).unwrap();
-    fs::write(folder.join("plane.txt"), "11\n11\n").unwrap();
+    fs::write(folder.join("plane.txt"), "1,1\n1,1\n").unwrap();
     good(&folder, &["table", "make", "--kind", KIND, "--shape", "2x2", "--store", "9", "guests.bin", "work.txt"]);
     fs::hard_link(folder.join("row1.bin"), folder.join("linked.bin")).unwrap();
     // A worksheet that has the name of a description.
@@ -425,9 +480,9 @@ fn no_input_of_any_command_is_replaced() {
         ],
         &["convert", "--kind", kind, "--shape", "1", "old.bin", "old.bin"],
         &["write", "--describe", "table.dpx", "table"],
-        &["guest", "read", "--kind", KIND, "--shape", "2x2", "--rights", "1111", "guests.bin", "guests.bin"],
+        &["guest", "read", "--kind", KIND, "--shape", "2x2", "--rights", "1,1,1,1", "guests.bin", "guests.bin"],
         &["guest", "read", "--kind", KIND, "--shape", "2x2", "--rights-file", "plane.txt", "guests.bin", "./plane.txt"],
-        &["guest", "edit", "--rights", "1111", "--cell", "0,0", "--to", "value \"\"", "work.txt", "work.txt"],
+        &["guest", "edit", "--rights", "1,1,1,1", "--cell", "0,0", "--to", "value \"\"", "work.txt", "work.txt"],
         &[
             "guest",
             "edit",
@@ -464,7 +519,7 @@ fn no_clobber_replaces_nothing() {
             [&["cut"][..], &table, more, &["--subset", whole, "guests.bin", out]].concat(),
             [&["merge"][..], &table, more, &["--part", whole, "guests.bin", out]].concat(),
             [&["convert"][..], &old, more, &["-", out]].concat(),
-            [&["guest", "read"][..], &table, more, &["--rights", "1111", "guests.bin", out]].concat(),
+            [&["guest", "read"][..], &table, more, &["--rights", "1,1,1,1", "guests.bin", out]].concat(),
         ] {
             let said = run(&folder, &line, &[1, 0, 0, 0, 1, 0, 0, 0, b'A']);
             assert_eq!(said.status, 73, "{line:?}: {}", said.err);

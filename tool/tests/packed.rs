@@ -112,7 +112,7 @@ fn unused_bits() {
     for line in [
         " 16 | 0D                      | level 1, mask: bits 0 2: cells 0 2 set, bit 1: cell 1 null, bits 3 4 5 6 7 unused  <- refused\n",
         " 17 | 0A 0B 0E 0F             | not read\n",
-        "refusal 13: a packed mask has a bit after its last cell that is not 0.\n",
+        "13 means: a packed mask has a bit after its last cell that is not 0.\n",
         "Reading stopped at byte 16 of 21: ",
         "Caused by whoever stored the bytes.",
     ] {

@@ -27,7 +27,7 @@ fn a_stored_byte() {
     for line in [
         " 36 | 01 02 00                | level 2, mask: cell 0,0 set, cell 1,1 null, cell 0,1 neither  <- refused\n",
         " 39 | 0C 00 00 00 00 00 00 00 | not read: 25 bytes, of which these are the first\n",
-        "refusal 14: a stored mask byte is neither 00 nor 01.\n",
+        "14 means: a stored mask byte is neither 00 nor 01.\n",
         "Reading stopped at byte 37 of 64: the mask of level 2 says 02 of cell 1, which is neither 00, null, nor 01, set.\n",
         "Caused by whoever stored the bytes.",
     ] {

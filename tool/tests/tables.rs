@@ -30,10 +30,10 @@ fn made_set_packed_and_shown() {
     made(&folder, "12");
     let first = [
         "store: 12",
-        "0,0 | 01 01 | start 0, length 5",
-        "0,1 | 01 01 | start 0, length 0",
-        "1,0 | 00 00 | start 0, length 0",
-        "1,1 | 01 00 | start 0, length 0",
+        "0,0 | 01 01 | value | start 0, length 5",
+        "0,1 | 01 01 | empty | start 0, length 0",
+        "1,0 | 00 00 | null at level 1 | start 0, length 0",
+        "1,1 | 01 00 | null at level 2 | start 0, length 0",
         "at 0 | \"0-3,8\"",
     ];
     assert_eq!(lines(&folder, "work.txt"), first);
@@ -41,9 +41,9 @@ fn made_set_packed_and_shown() {
     assert_eq!(good(&folder, &["show", "--kind", KIND, "--shape", "2x2", "guests.bin"]).out, shown.out);
 
     assert_eq!(set(&folder, "1,0", "value \"4-7\"", "work.txt", "next.txt").status, 0);
-    assert_eq!(lines(&folder, "next.txt")[3], "1,0 | 01 01 | start 5, length 3");
+    assert_eq!(lines(&folder, "next.txt")[3], "1,0 | 01 01 | value | start 5, length 3");
     assert_eq!(set(&folder, "0,0", "null at level 2", "next.txt", "null.txt").status, 0);
-    assert_eq!(lines(&folder, "null.txt")[1], "0,0 | 01 00 | start 0, length 0");
+    assert_eq!(lines(&folder, "null.txt")[1], "0,0 | 01 00 | null at level 2 | start 0, length 0");
     assert_eq!(lines(&folder, "null.txt")[5..], ["at 0 | \"0-3,8\"", "at 5 | \"4-7\""]);
     let text = fs::read_to_string(folder.join("null.txt")).unwrap();
     assert!(text.ends_with("at 0 | \"0-3,8\" # in no cell\nat 5 | \"4-7\" # cell 1,0\n"), "{text}");
@@ -200,6 +200,73 @@ fn what_is_refused() {
         );
     }
     assert_eq!(good(&folder, &["table", "--help"]).out, good(&folder, &["help", "table"]).out);
+}
+
+/// A text of the first version, without the words, is read as ever; what is written of it has them. With them masks, lengths and words
+/// must agree.
+#[test]
+fn a_word_for_each_cell() {
+    let folder = folder("working-words");
+    made(&folder, "12");
+    let new = fs::read_to_string(folder.join("work.txt")).unwrap();
+    assert!(new.starts_with("durpaxeta working table 2\n"), "{new}");
+    let words = ["value", "empty", "null at level 1", "null at level 2"];
+    let old =
+        words.iter().fold(new.replace("table 2", "table 1"), |text, word| text.replace(&format!(" | {word}"), ""));
+    assert!(old.contains("\n1,0 | 00 00 | start 0, length 0\n"), "{old}");
+    let show = |text: &str| run(&folder, &["table", "show", "-"], text.as_bytes());
+    assert_eq!((show(&old).status, show(&old).out), (0, show(&new).out));
+    let packed = run(&folder, &["table", "pack", "--most", "1", "-", "-"], old.as_bytes());
+    assert_eq!((packed.status, packed.text()), (0, &*new));
+
+    let empty = "0,1 | 01 01 | empty | start 0, length 0";
+    let null = "1,0 | 00 00 | null at level 1 | start 0, length 0";
+    assert!(new.contains(empty) && new.contains(null), "{new}");
+    for (from, to, says) in [
+        (
+            empty,
+            "0,1 | 01 01 | null at level 1 | start 0, length 0",
+            "says \"null at level 1\", and its masks and its length say \"empty\"",
+        ),
+        (
+            empty,
+            "0,1 | 00 00 | empty | start 0, length 0",
+            "says \"empty\", and its masks and its length say \"null at level 1\"",
+        ),
+        (empty, "0,1 | 01 00 | empty | start 0, length 0", "say \"null at level 2\""),
+        (
+            empty,
+            "0,1 | 01 01 | value | start 0, length 0",
+            "says \"value\", and its masks and its length say \"empty\"",
+        ),
+        (
+            empty,
+            "0,1 | 01 01 | empty | start 5, length 1",
+            "says \"empty\", and its masks and its length say \"value\"",
+        ),
+        (null, "1,0 | 00 00 | null at level 2 | start 0, length 0", "say \"null at level 1\""),
+        (null, "1,0 | 00 00 | null | start 0, length 0", "say \"null at level 1\""),
+        (null, "1,0 | 00 00 | | start 0, length 0", "say \"null at level 1\""),
+        (
+            null,
+            "1,0 | 00 00 | start 0, length 0",
+            "coordinates | masks | null at level 1, empty or value | start 0, length 5",
+        ),
+    ] {
+        let said = show(&new.replace(from, to));
+        assert_eq!((said.status, said.text()), (65, ""), "{to}: {}", said.err);
+        assert!(said.err.contains(says), "{to}: {}", said.err);
+    }
+    // Whether it is a working table, the library says.
+    for (from, to) in [
+        (empty, "0,1 | 01 02 | empty | start 0, length 0"),
+        (null, "1,0 | 00 00 | null at level 1 | start 5, length 1"),
+        (null, "1,0 | 00 01 | null at level 1 | start 0, length 0"),
+    ] {
+        assert_eq!(show(&new.replace(from, to)).status, 4, "{to}");
+    }
+    let said = show(&old.replace("0,1 | 01 01 | ", "0,1 | 01 01 | empty | "));
+    assert_eq!((said.status, said.err.contains("coordinates | masks | start 0, length 5")), (65, true), "{}", said.err);
 }
 
 /// Which rule is broken.

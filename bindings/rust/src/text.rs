@@ -218,27 +218,60 @@ impl fmt::Display for Rights {
 impl FromStr for Rights {
     type Err = TextError;
 
-    /// Reads what [`Rights`] prints. Commas may be left out, and white space may stand between: `10 01` is `1,0,0,1`. How many
-    /// cells there must be is left to the calls; a digit over 1 is refused here.
+    /// Reads what [`Rights`] prints; white space does for a comma, too. Digits of two cells with nothing between are refused: `00 01`
+    /// could be two bytes as well as four cells. How many cells there must be is left to the calls; a digit over 1 is refused here.
     fn from_str(text: &str) -> Result<Rights, TextError> {
         let wrong = |what: &str| {
             let write = "write 1 for each cell that is shown and 0 for each other one, for example 1,0,1";
             TextError::Words(format!("the rights plane {what}; {write}"))
         };
-        let mut bytes = Vec::new();
-        for part in text.split(',') {
-            if part.trim().is_empty() && !text.trim().is_empty() {
-                return Err(wrong("has nothing beside a comma"));
-            }
-            for said in part.chars().filter(|said| !said.is_whitespace()) {
-                let digit = said.to_digit(10);
-                bytes.push(digit.ok_or_else(|| wrong(&format!("has {said:?}, which says nothing here")))? as u8);
-            }
+        let parts: Vec<&str> = text.split(',').collect();
+        if parts.iter().any(|part| part.trim().is_empty()) && !text.trim().is_empty() {
+            return Err(wrong("has nothing beside a comma"));
         }
-        let other = bytes.iter().copied().find(|&byte| Mark::of(byte) == Mark::Other).unwrap_or_default();
-        Rights::from_bytes(bytes).map_err(|refusal| TextError::Refused {
+        let words: Vec<&str> = parts.into_iter().flat_map(str::split_whitespace).collect();
+        let mut digits = Vec::new();
+        for said in words.iter().flat_map(|word| word.chars()) {
+            let digit = said.to_digit(10);
+            digits.push(digit.ok_or_else(|| wrong(&format!("has {said:?}, which says nothing here")))? as u8);
+        }
+        let other = digits.iter().copied().find(|&digit| Mark::of(digit) == Mark::Other).unwrap_or_default();
+        let plane = Rights::from_bytes(digits).map_err(|refusal| TextError::Refused {
             refusal,
             detail: format!("The rights plane has {other}, which is neither 0 nor 1"),
-        })
+        })?;
+        if plane.cell_count() == words.len() {
+            return Ok(plane);
+        }
+        let or = match in_bytes(&words) {
+            Some(other) => format!(", or {}", reading(&other, ", a byte each")),
+            None => String::new(),
+        };
+        let what = "the rights plane has digits with nothing between";
+        Err(TextError::Words(format!("{what}; write {}{or}", reading(&plane, ""))))
     }
+}
+
+/// What such words are if the digits of two cells stand together where they are the two of a byte, 00 or 01.
+fn in_bytes(words: &[&str]) -> Option<Rights> {
+    let mut bytes = Vec::new();
+    for word in words {
+        match word.len() {
+            1 => bytes.push(word.parse().ok()?),
+            _ => {
+                for pair in word.as_bytes().chunks(2) {
+                    bytes.push([b"00", b"01"].iter().position(|byte| pair == byte.as_slice())? as u8);
+                }
+            }
+        }
+    }
+    Rights::from_bytes(bytes).ok()
+}
+
+/// A plane as it should be written, and of how many cells it is; of a long one the first cells.
+fn reading(plane: &Rights, each: &str) -> String {
+    let (count, first) = (plane.cell_count(), 16);
+    let cells: Rights = (0..count.min(first)).map(|cell| plane.shows(cell)).collect();
+    let (more, noun) = (if count > first { ",.." } else { "" }, if count == 1 { "cell" } else { "cells" });
+    format!("{cells}{more} ({count} {noun}{each})")
 }

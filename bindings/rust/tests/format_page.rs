@@ -251,6 +251,10 @@ fn guests_are_real() {
         assert_eq!((array.masks.len(), array.offsets.len()), (8, 5));
     }
     assert_eq!((seen[0].values.len(), seen[1].values.len()), (5, 0));
+    let [first, second] = &planes;
+    assert!(page.contains(&format!("Guest 0 has the plane `{first}`, guest 1 the plane `{second}`:")));
+    assert_eq!((first.to_string().parse(), first.bytes()), (Ok(first.clone()), &[1, 0, 1, 0][..]));
+    assert!(page.contains(&format!("`{first}` is the four bytes 01 00 01 00.")));
     assert!(page.contains("here 8 mask bytes and 5 offsets for both, and 5 value bytes for guest 0, none for guest 1"));
 
     let mut table = Table::make(&affinity, 12).unwrap();
@@ -283,10 +287,10 @@ fn planes_combine_as_the_page_says() {
     let both = guest.both(&host).unwrap();
     let read = |array: &Array, plane: &Rights| guest_read(array, plane).unwrap();
     let (seen, seen_by_both) = (read(&affinity, &guest), read(&affinity, &both));
-    let bytes = |plane: &Rights| plane.bytes().iter().map(|byte| format!("{byte:02X}")).collect();
+    let digits = |plane: &Rights| plane.bytes().iter().map(u8::to_string).collect();
     let cells: Vec<String> = (0..4).map(|cell| words(&seen_by_both, cell)).collect();
     for (name, row) in
-        [("guest 1", bytes(&guest)), ("host 0", bytes(&host)), ("both", bytes(&both)), ("is read", cells)]
+        [("guest 1", digits(&guest)), ("host 0", digits(&host)), ("both", digits(&both)), ("is read", cells)]
     {
         let row = format!("\n| {name} | {} |\n", row.join(" | "));
         assert!(page.contains(&row), "{row}");
@@ -298,6 +302,8 @@ fn planes_combine_as_the_page_says() {
     let hosts: [Subset; 2] = ["0..1,0..2", "1..2,0..2"].map(|subset| subset.parse().unwrap());
     let planes = hosts.each_ref().map(|subset| extract(guest.array(&shape), subset).unwrap());
     assert_eq!(planes.each_ref().map(|plane| &plane.values[..]), [[0, 1]; 2]);
+    assert!(page.contains("which becomes `0,1`.") && page.contains("host 1 has the plane `0,1`, too."));
+    assert!(page.contains(&format!("the plane is `{guest}` again")));
     let parts = [0, 1].map(|host| {
         let cut = extract(&affinity, &hosts[host]).unwrap();
         read(&cut, &Rights::from_array(planes[host].clone()).unwrap())

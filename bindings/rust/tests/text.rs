@@ -118,7 +118,7 @@ fn subsets() {
 fn rights_planes() {
     let plane = Rights::new(&[true, false, false, true]);
     assert_eq!(plane.to_string(), "1,0,0,1");
-    for text in ["1,0,0,1", "1001", " 10 01 ", "1, 0, 01", "10\n01", "10,\t01"] {
+    for text in ["1,0,0,1", "1 0 0 1", " 1 0,0 1 ", "1, 0 , 0,1", "1,0\n0,1", "1,0,\t0\t1"] {
         assert_eq!(text.parse(), Ok(plane.clone()), "{text:?}");
     }
     let none = Rights::new(&[]);
@@ -137,6 +137,16 @@ fn rights_planes() {
         let said = format!(
             "the rights plane {what}; write 1 for each cell that is shown and 0 for each other one, for example 1,0,1"
         );
+        assert_eq!(text.parse::<Rights>(), Err(TextError::Words(said)), "{text:?}");
+    }
+    for (text, readings) in [
+        ("00 01", "0,0,0,1 (4 cells), or 0,1 (2 cells, a byte each)"),
+        ("1,0100", "1,0,1,0,0 (5 cells), or 1,1,0 (3 cells, a byte each)"),
+        ("01", "0,1 (2 cells), or 1 (1 cell, a byte each)"),
+        ("1001", "1,0,0,1 (4 cells)"),
+        ("001", "0,0,1 (3 cells)"),
+    ] {
+        let said = format!("the rights plane has digits with nothing between; write {readings}");
         assert_eq!(text.parse::<Rights>(), Err(TextError::Words(said)), "{text:?}");
     }
     for (text, digit) in [("2", 2), ("1,0,9", 9), ("0123", 2)] {

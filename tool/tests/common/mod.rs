@@ -2,10 +2,14 @@
 
 #![allow(dead_code)] // No test uses all of it.
 
-use std::fs;
+use std::ffi::{c_char, CStr, OsString};
+use std::fs::{self, File, OpenOptions};
 use std::io::{Read, Write};
+use std::os::fd::FromRawFd;
+use std::os::unix::ffi::OsStringExt;
 use std::path::{Path, PathBuf};
 use std::process::{Child, Command, Stdio};
+use std::sync::Mutex;
 use std::thread;
 use std::time::{Duration, Instant};
 
@@ -25,14 +29,9 @@ impl Said {
     }
 }
 
-/// What was told on standard error, without progress: on a busy disk a sync can take over a second, which is told.
+/// What was told on standard error.
 pub fn told(err: Vec<u8>) -> String {
-    let err = String::from_utf8(err).unwrap();
-    let progress = |line: &&str| {
-        ["durpaxeta: reading ", "durpaxeta: writing "].iter().any(|begin| line.starts_with(begin))
-            && [" bytes\n", " so far\n"].iter().any(|end| line.ends_with(end))
-    };
-    err.split_inclusive('\n').filter(|line| !progress(line)).collect()
+    String::from_utf8(err).unwrap()
 }
 
 /// A directory of its own for each test.
@@ -113,6 +112,43 @@ pub fn le(numbers: &[u64], width: usize, then: &[u8]) -> Vec<u8> {
     bytes
 }
 
+extern "C" {
+    fn posix_openpt(flags: i32) -> i32;
+    fn grantpt(terminal: i32) -> i32;
+    fn unlockpt(terminal: i32) -> i32;
+    fn ptsname(terminal: i32) -> *const c_char;
+}
+
+/// The two ends of a terminal: the one that shows what comes, and the one that a command has.
+pub fn terminal() -> (File, File) {
+    /// O_RDWR, O_NOCTTY and O_CLOEXEC of Linux.
+    const FLAGS: i32 = 0o2 | 0o400 | 0o2000000;
+    static ONE: Mutex<()> = Mutex::new(());
+    let _one = ONE.lock();
+    // SAFETY: plain calls of the C library; the name is copied before the next one, and the descriptor is owned here alone.
+    let (shows, path) = unsafe {
+        let shows = posix_openpt(FLAGS);
+        assert!(shows >= 0 && grantpt(shows) == 0 && unlockpt(shows) == 0, "no terminal");
+        (File::from_raw_fd(shows), CStr::from_ptr(ptsname(shows)).to_bytes().to_vec())
+    };
+    (shows, OpenOptions::new().read(true).write(true).open(OsString::from_vec(path)).unwrap())
+}
+
+/// Reads what a terminal shows, until it is there, or else until the last that has the terminal is gone, which is an error here.
+pub fn shown(shows: &mut File, until: Option<&str>) -> String {
+    let (mut all, mut piece) = (Vec::new(), [0; 4096]);
+    while !until.is_some_and(|text| String::from_utf8_lossy(&all).contains(text)) {
+        match shows.read(&mut piece) {
+            Ok(count @ 1..) => all.extend_from_slice(&piece[..count]),
+            _ => break,
+        }
+    }
+    String::from_utf8(all).unwrap()
+}
+
+/// What ends a line of progress on a terminal.
+pub const ERASED: &str = "\r\u{1B}[K";
+
 /// Runs a line of sh, in which `durpaxeta` is the tool.
 pub fn sh(folder: &Path, line: &str) -> Said {
     let path = format!("{}:{}", Path::new(TOOL).parent().unwrap().display(), std::env::var("PATH").unwrap());
@@ -154,7 +190,7 @@ pub fn prints_what_the_page_says(number: &str, least: usize) {
     for (at, &begin) in begins.iter().enumerate() {
         let end = begins.get(at + 1).copied().unwrap_or(lines.len());
         let command = format!("{{ {}; }} 2>&1", &lines[begin][2..]);
-        let said = told(sh(&folder, &command).out);
-        assert_eq!(said.lines().collect::<Vec<_>>(), lines[begin + 1..end], "{command}");
+        let said = sh(&folder, &command);
+        assert_eq!(said.text().lines().collect::<Vec<_>>(), lines[begin + 1..end], "{command}");
     }
 }
