@@ -28,7 +28,7 @@ $(O)/libagain.a: oracle/again/again.c oracle/again/again.h include/durpaxeta.h
 	@gcc -std=c11 -O3 -Wall -Wextra -Werror -Iinclude -c -o $(O)/again.o $<
 	@ar rcs $@ $(O)/again.o
 
-$(O)/driver: $(wildcard oracle/driver/*.rs) $(O)/libjudge.rlib $(O)/libagain.a $(O)/.rust
+$(O)/driver: $(wildcard oracle/driver/*.rs) oracle/data/arrangements.txt $(O)/libjudge.rlib $(O)/libagain.a $(O)/.rust
 	@$(RUSTC) -O -L $(O) --extern judge=$(O)/libjudge.rlib $(foreach b,standin_debug standin_release listed_debug listed_release,--extern $(b)=$(O)/lib$(b).rlib) -o $@ oracle/driver/main.rs
 
 # The archive as a shared object, so that one driver takes any archive.
