@@ -90,7 +90,8 @@ $(O)/bench: $(wildcard bench/*.rs) oracle/driver/archive.rs oracle/driver/rng.rs
 	@$(RUSTC) -C opt-level=3 -L $(O) --extern standin_release=$(O)/libstandin_release.rlib -o $@ bench/main.rs
 
 # ROUNDS  of which the best counts. Every row with its times goes to build/oracle/bench.txt.
-# ONLY    interleaved: the rows of the interleaved form alone; generate: those of loads; table: those of working tables; guest: those of guests.
+# ONLY    interleaved: the rows of the interleaved form alone; generate: those of loads; table: those of working tables; guest: those of guests;
+#         arrangement: those of arrangements.
 ROUNDS ?= 25
 ONLY ?=
 .PHONY: bench
