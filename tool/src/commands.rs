@@ -8,7 +8,7 @@ use crate::locate::Walk;
 use crate::output::{self, Output};
 use crate::stored::{cells, given_kind, given_shape, missing_kind, missing_shape, stopped, Given, Interleaved, Stored};
 use crate::watch::Watch;
-use crate::{explain, guests, help, json, tables, words, worksheet};
+use crate::{arrangements, explain, guests, help, json, tables, words, worksheet};
 use durpaxeta::{
     decode, encode, encode_interleaved, extract, generate, merge, partial_decode, subset_cells, Array, Cell, Chunk,
     Kind, Refusal, Subset, Values,
@@ -24,7 +24,7 @@ struct Command {
     run: fn(&Arguments, &Watch) -> Result<u8, Failure>,
 }
 
-const COMMANDS: [Command; 18] = [
+const COMMANDS: [Command; 19] = [
     Command {
         name: "show",
         help: help::SHOW,
@@ -66,6 +66,13 @@ const COMMANDS: [Command; 18] = [
         options: &["--kind", "--shape", "--start", "--describe", "--no-clobber"],
         files: &["OUT"],
         run: make_load,
+    },
+    Command {
+        name: "arrangement",
+        help: help::ARRANGEMENT,
+        options: &["--kind", "--cells", "--number", "--count", "--all"],
+        files: &[],
+        run: arrangements::run,
     },
     Command {
         name: "check",

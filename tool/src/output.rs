@@ -1,6 +1,6 @@
 //! Outputs. A file is replaced whole or stays as it was: its bytes go to a temporary file in the same folder, are synced,
 //! and take the place of the old ones in one step. On a failure or a signal the temporary file is removed.
-//! What is no regular file (a pipe, a device) is written as it comes.
+//! What is no regular file (a pipe, a device) is written as it comes. A folder of files is made in the same way, whole or not at all.
 
 use crate::failure::{Failure, KEPT, SYSTEM};
 use crate::files::{self, folder, identity, Identity, Input};
@@ -133,12 +133,60 @@ pub fn write(outputs: &[(Output, &[u8])], watch: &Watch) -> Result<(), Failure> 
     for (output, path, temporary) in ready {
         temporary.put(output, path)?;
         // So that the next one does not come to its place before this one, whenever the power fails.
-        File::open(folder(path)).and_then(|folder| sync(&folder)).map_err(|error| {
-            let name = format!("{}, which is in its place", output.name);
-            Failure::system("sync the folder of", &name, &error)
-        })?;
+        sync_folder_of(&output.name, path)?;
     }
     Ok(())
+}
+
+fn sync_folder_of(name: &str, path: &Path) -> Result<(), Failure> {
+    File::open(folder(path))
+        .and_then(|folder| sync(&folder))
+        .map_err(|error| Failure::system("sync the folder of", &format!("{name}, which is in its place"), &error))
+}
+
+/// Makes a folder of files, or nothing: they go to a temporary folder beside it, which takes its place in one step when all are
+/// stored safely. What is there already is kept, but for an empty folder.
+pub fn write_folder(path: &OsStr, files: &[(String, Vec<u8>)], watch: &Watch) -> Result<(), Failure> {
+    let name = path.to_string_lossy().into_owned();
+    let failed = |error: io::Error| Failure::system("write", &name, &error);
+    let place = files::follow(path).map_err(failed)?;
+    if place.file_name().is_none() {
+        return Err(Failure::usage(format!("{name} is no name for a new folder")));
+    }
+    let there = fs::symlink_metadata(&place).ok();
+    let taken = || fs::symlink_metadata(&place).is_ok() && !is_empty_folder(&place);
+    let kept = || Failure::plain(KEPT, format!("{name} is there already, and is no empty folder"));
+    if taken() {
+        return Err(kept());
+    }
+    watch.step(format!("writing {name}"), Some(files.len() as u64), "files");
+    // Dropped last, as in `write`.
+    let held = system::hold();
+    let (mut temporary, ()) =
+        create(&place, |path| fs::create_dir(path)).map_err(|error| no_new_file(&name, &error))?;
+    let Some(own) = temporary.0.clone() else { return Ok(()) };
+    for (number, (file, bytes)) in files.iter().enumerate() {
+        if held.arrived() {
+            return Err(stopped(&name));
+        }
+        fs::write(own.join(file), bytes).map_err(failed)?;
+        watch.done(number as u64 + 1);
+    }
+    if let Some(about) = there {
+        fs::set_permissions(&own, Permissions::from_mode(about.mode() & 0o7777)).map_err(failed)?;
+    }
+    File::open(&own).and_then(|folder| synced(system::sync_around(&folder))).map_err(failed)?;
+    if held.arrived() {
+        return Err(stopped(&name));
+    }
+    // It takes the place of nothing but an empty folder: should something have come there meanwhile, that is kept.
+    fs::rename(&own, &place).map_err(|error| if taken() { kept() } else { failed(error) })?;
+    temporary.0 = None;
+    sync_folder_of(&name, &place)
+}
+
+fn is_empty_folder(path: &Path) -> bool {
+    fs::read_dir(path).is_ok_and(|mut there| there.next().is_none())
 }
 
 fn stream(output: &Output, to: io::Result<File>, bytes: &[u8], watch: &Watch) -> Result<(), Failure> {
@@ -160,13 +208,13 @@ fn pieces(output: &Output, to: &mut File, bytes: &[u8], watch: &Watch, stop: imp
     Ok(())
 }
 
-/// A temporary file; removed when it goes, unless it was put in its place.
+/// A temporary file or folder; removed when it goes, unless it was put in its place.
 struct Temporary(Option<PathBuf>);
 
 impl Drop for Temporary {
     fn drop(&mut self) {
         if let Some(path) = &self.0 {
-            let _ = fs::remove_file(path);
+            let _ = if path.is_dir() { fs::remove_dir_all(path) } else { fs::remove_file(path) };
         }
     }
 }
@@ -186,9 +234,8 @@ fn store(
         OpenOptions::new().write(true).open(path).map_err(failed)?;
     }
     let mode = there.map_or(0o666, |about| about.mode() & 0o777);
-    let (temporary, mut file) = create(folder(path), mode).map_err(|error| {
-        Failure::system("write", &format!("{}, as its folder takes no new file", output.name), &error)
-    })?;
+    let new = |path: &Path| OpenOptions::new().write(true).create_new(true).mode(mode).open(path);
+    let (temporary, mut file) = create(path, new).map_err(|error| no_new_file(&output.name, &error))?;
     if let Some(about) = there {
         let own = file.metadata().map_err(failed)?;
         if (own.uid(), own.gid()) != (about.uid(), about.gid()) {
@@ -200,18 +247,26 @@ fn store(
     pieces(output, &mut file, bytes, watch, || held.arrived())?;
     sync(&file).map_err(failed)?;
     if held.arrived() {
-        return Err(Failure::plain(SYSTEM, format!("cannot write {}: stopped by a signal", output.name)));
+        return Err(stopped(&output.name));
     }
     Ok(temporary)
 }
 
-/// A new file in a folder. Its name is short, so that it fits wherever the output's does.
-fn create(folder: &Path, mode: u32) -> io::Result<(Temporary, File)> {
+fn stopped(name: &str) -> Failure {
+    Failure::plain(SYSTEM, format!("cannot write {name}: stopped by a signal"))
+}
+
+fn no_new_file(name: &str, error: &io::Error) -> Failure {
+    Failure::system("write", &format!("{name}, as its folder takes no new file"), error)
+}
+
+/// Something new in the folder of a place. Its name is short, so that it fits wherever the output's does.
+fn create<T>(place: &Path, new: impl Fn(&Path) -> io::Result<T>) -> io::Result<(Temporary, T)> {
     let mut number = 0;
     loop {
-        let path = folder.join(format!(".durpaxeta-{}-{number}", std::process::id()));
-        match OpenOptions::new().write(true).create_new(true).mode(mode).open(&path) {
-            Ok(file) => return Ok((Temporary(Some(path)), file)),
+        let path = folder(place).join(format!(".durpaxeta-{}-{number}", std::process::id()));
+        match new(&path) {
+            Ok(made) => return Ok((Temporary(Some(path)), made)),
             Err(error) if error.kind() == ErrorKind::AlreadyExists && number < 1000 => number += 1,
             Err(error) => return Err(error),
         }
@@ -219,7 +274,11 @@ fn create(folder: &Path, mode: u32) -> io::Result<(Temporary, File)> {
 }
 
 fn sync(file: &File) -> io::Result<()> {
-    match file.sync_all() {
+    synced(file.sync_all())
+}
+
+fn synced(answer: io::Result<()>) -> io::Result<()> {
+    match answer {
         // Some file systems have nothing to sync.
         Err(error) if matches!(error.kind(), ErrorKind::InvalidInput | ErrorKind::Unsupported) => Ok(()),
         synced => synced,

@@ -1,8 +1,11 @@
-//! What std has no words for: signals, and standard descriptors that were closed when the command began.
+//! What std has no words for: signals, standard descriptors that were closed when the command began, and a sync of many files.
 
 #![allow(unsafe_code)]
 
 use std::ffi::c_int;
+use std::fs::File;
+use std::io;
+use std::os::fd::AsRawFd;
 use std::sync::atomic::{AtomicBool, AtomicI32, Ordering};
 
 // The numbers of Linux.
@@ -19,6 +22,7 @@ extern "C" {
     fn fcntl(descriptor: c_int, command: c_int, ...) -> c_int;
     fn signal(number: c_int, handler: usize) -> usize;
     fn raise(number: c_int) -> c_int;
+    fn syncfs(descriptor: c_int) -> c_int;
 }
 
 /// Whether standard input and standard output were closed. Before `main` std opens /dev/null in their place, which
@@ -48,6 +52,15 @@ pub fn output_was_closed() -> bool {
 pub fn tell_of_long_files() {
     // SAFETY: ignoring a signal runs no code of ours.
     unsafe { signal(SIGXFSZ, SIG_IGN) };
+}
+
+/// Syncs the file system in which a file or a folder lies: many new files at once.
+pub fn sync_around(file: &File) -> io::Result<()> {
+    // SAFETY: the descriptor is open as long as `file` is.
+    match unsafe { syncfs(file.as_raw_fd()) } {
+        0 => Ok(()),
+        _ => Err(io::Error::last_os_error()),
+    }
 }
 
 /// The last signal that was held back; 0 is none.

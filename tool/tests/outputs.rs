@@ -201,6 +201,37 @@ fn a_signal_during_a_write_leaves_nothing() {
     }
 }
 
+/// A folder of files is whole or not there.
+#[test]
+fn a_signal_while_a_folder_is_made_leaves_nothing() {
+    let folder = prepared("folders", 10);
+    let before = contents(&folder);
+    let set = ["arrangement", "--kind", KIND, "--cells", "4", "--all", "set"];
+    for (number, name) in SIGNALS {
+        let mut tries = 0;
+        loop {
+            let status = stopped_while_writing(&folder, start(&folder, &set)).map(|mut child| {
+                send(&child, number);
+                send(&child, SIGCONT);
+                child.wait().unwrap()
+            });
+            let there = folder.join("set").exists();
+            match status {
+                Some(status) if !there => {
+                    assert_eq!(status.signal(), Some(number), "{name}: {status}");
+                    break;
+                }
+                // Too late, or it was killed outright and left its temporary folder.
+                _ => sh(&folder, "rm -rf set .durpaxeta-*"),
+            };
+            tries += 1;
+            assert!(tries < 100, "{name} never came in time");
+        }
+        assert!(!temporary(&folder), "{name}: something was left");
+        assert!(contents(&folder) == before, "{name}: something was changed");
+    }
+}
+
 /// A signal that was ignored stays so: a command under nohup goes on.
 #[test]
 fn an_ignored_signal_stays_ignored() {

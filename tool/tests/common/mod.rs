@@ -30,7 +30,7 @@ pub fn told(err: Vec<u8>) -> String {
     let err = String::from_utf8(err).unwrap();
     let progress = |line: &&str| {
         ["durpaxeta: reading ", "durpaxeta: writing "].iter().any(|begin| line.starts_with(begin))
-            && [" bytes\n", " so far\n"].iter().any(|end| line.ends_with(end))
+            && [" bytes\n", " files\n", " so far\n"].iter().any(|end| line.ends_with(end))
     };
     err.split_inclusive('\n').filter(|line| !progress(line)).collect()
 }
