@@ -1,4 +1,4 @@
--- Redundant by the contract of `arrangement::arrangement`, arrangement/src/lib.rt: what is known of the states of an arrangement's cells (S15.1, S15.2).
+-- Redundant by the contract of `arrangement::arrangement`, arrangement/src/lib.rt: what is known of the cells' states (S15.1, S15.2).
 -- Assumes nothing.
 use Rattle.std.specs.Prelude.{ℕ, ◌-◌, ◌<◌, ◌≡◌, List, map, get_or}
 use Rattle.std.specs.Coded.{le_prop}
