@@ -10,7 +10,7 @@ use std::ffi::OsStr;
 use std::fs::{self, File, Metadata, OpenOptions, Permissions};
 use std::io::{self, ErrorKind, Write};
 use std::os::fd::AsFd;
-use std::os::unix::fs::{fchown, MetadataExt, OpenOptionsExt, PermissionsExt};
+use std::os::unix::fs::{chown, fchown, MetadataExt, OpenOptionsExt, PermissionsExt};
 use std::path::{Path, PathBuf};
 
 /// Bytes that are written between two looks at the signals.
@@ -173,6 +173,8 @@ pub fn write_folder(path: &OsStr, files: &[(String, Vec<u8>)], watch: &Watch) ->
         watch.done(number as u64 + 1);
     }
     if let Some(about) = there {
+        // As in `store`.
+        let _ = chown(&own, Some(about.uid()), Some(about.gid()));
         fs::set_permissions(&own, Permissions::from_mode(about.mode() & 0o7777)).map_err(failed)?;
     }
     File::open(&own).and_then(|folder| synced(system::sync_around(&folder))).map_err(failed)?;
