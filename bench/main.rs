@@ -1,6 +1,7 @@
 //! The archive's and the Rust's times, in one process: the two by turns, the best of many rounds each.
 //!
-//!   bench OBJECT [ROUNDS [FILE [ONLY]]]     FILE: every row with its times; ONLY: the rows of the interleaved form, generate, table or guest alone
+//!   bench OBJECT [ROUNDS [FILE [ONLY]]]     FILE: every row with its times; ONLY: the rows of the interleaved form, generate, table, guest or
+//!                                           arrangement alone
 //!
 //! Both get the same inputs, borrowed. The archive writes to lent outputs, reused from call to call. The Rust allocates: its results, and
 //! inside encode and decode a part of the array for each level, the index and the data; giving that memory back is in its time. Where it
@@ -9,11 +10,12 @@
 //! which does less than the listed one.
 //! Packed masks, which the Rust does not have, are timed against masks of bytes, both ours. encode_interleaved and generate, which it does not have either,
 //! are timed against a plain Rust loop with reused buffers (bounds.rs), the former by the same C signature and into the same memory, and also against that
-//! loop behind the same checks; working tables and guests' calls against loops with the same checks (tables.rs, guests.rs).
+//! loop behind the same checks; working tables, guests' calls and arrangements against loops with the same checks (tables.rs, guests.rs, arrangements.rs).
 
 #[path = "../oracle/driver/archive.rs"]
 #[allow(dead_code)]
 mod archive;
+mod arrangements;
 mod bounds;
 mod guests;
 mod inputs;
@@ -61,6 +63,8 @@ enum Call<'a> {
     Load(&'a [u64; 5], &'a [u64], usize),
     /// What a rights plane shows, and how many value bytes are lent.
     Seen(&'a Input, &'a [u8], usize),
+    /// Depth, cells and number.
+    Arranged([u64; 3]),
     Memcpy(&'a [u8]),
 }
 use Call::*;
@@ -69,6 +73,7 @@ const OLDER: &str = "encode_interleaved";
 const LOAD: &str = "generate";
 const TABLE: [&str; 5] = ["table_make", "table_read", "table_set", "table_pack", "table_preview"];
 const GUEST: [&str; 2] = ["guest_read", "guest_edit"];
+const ARRANGED: &str = "arrangement";
 const START: u32 = 7;
 impl Call<'_> {
     fn name(&self) -> &'static str {
@@ -83,6 +88,7 @@ impl Call<'_> {
             Older(..) => OLDER,
             Load(..) => LOAD,
             Seen(..) => GUEST[0],
+            Arranged(..) => ARRANGED,
             Memcpy(..) | Cells(..) => "",
         }
     }
@@ -133,6 +139,7 @@ fn ours(a: &Archive, call: Call, l: &mut Lent) {
                 c_kind(&i.kind), i.shape.as_ptr(), i.shape.len(), rights.as_ptr(), rights.len(), i.masks.as_ptr(), i.masks.len(),
                 i.values.as_ptr(), i.values.len(), i.offsets.as_ptr(), i.offsets.len(), m, ml, v, room, o, ol, n,
             ),
+            Arranged([depth, cells, number]) => (a.arrangement)(depth, cells, number, m, ml, v, vl, o, ol, n),
             Memcpy(s) => {
                 l.values[..s.len()].copy_from_slice(black_box(s));
                 0
@@ -244,6 +251,8 @@ struct Bench {
     tables: Vec<Row>,
     /// Guests' calls beside plain loops.
     guests: Vec<Row>,
+    /// Arrangements beside a plain loop.
+    arranged: Vec<Row>,
 }
 
 fn keep<T>(result: T) {
@@ -252,8 +261,9 @@ fn keep<T>(result: T) {
 
 impl Bench {
     fn new(archive: Archive, rounds: u32) -> Bench {
-        let (rows, packed, older, checked, tables, guests) = (vec![], vec![], vec![], vec![], vec![], vec![]);
-        Bench { archive, rounds, rows, packed, older, checked, loads: [vec![], vec![]], tables, guests }
+        let (rows, packed, older, checked) = (vec![], vec![], vec![], vec![]);
+        let (loads, tables, guests, arranged) = ([vec![], vec![]], vec![], vec![], vec![]);
+        Bench { archive, rounds, rows, packed, older, checked, loads, tables, guests, arranged }
     }
 
     fn ours<'a>(&self, call: Call<'a>) -> Timed<'a> {
@@ -270,6 +280,7 @@ impl Bench {
             Older(i) => timed(move || ours(&a, Older(i), &mut l)),
             Load(kind, shape, room) => timed(move || ours(&a, Load(kind, shape, room), &mut l)),
             Seen(i, rights, room) => timed(move || ours(&a, Seen(i, rights, room), &mut l)),
+            Arranged(numbers) => timed(move || ours(&a, Arranged(black_box(numbers)), &mut l)),
             Memcpy(s) => timed(move || ours(&a, Memcpy(s), &mut l)),
         }
     }
@@ -512,6 +523,25 @@ impl Bench {
         let kind = format!("d{} {}", i.kind[0], kind_name(&i.kind));
         let column = cells_of(&i.shape).to_string();
         self.guests.push(Row { call: GUEST[0], below: true, kind, what, column, other, ours, held: None });
+    }
+
+    /// The loop makes the same, then the clock.
+    fn arranged_row(&mut self, numbers: [u64; 3], what: &str, mut reused: tables::Read) {
+        let [depth, cells, number] = numbers;
+        let [masks, values, offsets] = arrangements::make(depth, cells, number, &mut reused).unwrap();
+        let mut lent = Lent::new();
+        ours(&self.archive, Arranged(numbers), &mut lent);
+        let same = (&lent.masks[..masks], &lent.values[..values], &lent.offsets[..offsets], lent.lengths.map(|n| n as usize));
+        let due = (&reused.masks[..masks], &reused.values[..values], &reused.offsets[..offsets], [masks, values, offsets]);
+        assert!(same == due, "not the same: {ARRANGED} {numbers:?}");
+        let other = timed(|| {
+            let [depth, cells, number] = black_box(numbers);
+            keep(arrangements::make(depth, cells, number, &mut reused));
+            black_box(&mut reused);
+        });
+        let [ours, other] = self.turns(Arranged(numbers), other, 1.0, 2.0);
+        let (kind, what, column) = (format!("d{depth}"), what.to_string(), cells.to_string());
+        self.arranged.push(Row { call: ARRANGED, below: depth > 0, kind, what, column, other, ours, held: None });
     }
 
     fn interleaved(&mut self, cells: usize, values: Values) {
@@ -1015,6 +1045,33 @@ fn guest_rows(b: &mut Bench) {
 }
 
 /// In the middle of two sides.
+/// Single arrangements of the fewest and the most cells, the first, one in the middle and the last; and every number of the largest set, one call after the other.
+fn arranged_rows(b: &mut Bench) {
+    let room = || tables::Read { masks: vec![9; 8], values: vec![9; 12], offsets: vec![9; 5] };
+    for depth in 0..=2_u64 {
+        for cells in [1, 4] {
+            let count = (depth + 4).pow(cells as u32);
+            for (what, number) in [("the first", 0), ("in the middle", count / 2), ("the last", count - 1)] {
+                b.arranged_row([depth, cells, number], what, room());
+            }
+        }
+    }
+    let (a, all) = (b.archive, 0..1_296);
+    let mine = || {
+        let (mut l, all) = (Lent::new(), all.clone());
+        timed(move || all.clone().for_each(|number| ours(&a, Arranged([2, 4, number]), &mut l)))
+    };
+    let mut reused = room();
+    let other = timed(|| {
+        for number in all.clone() {
+            keep(arrangements::make(2, 4, number, &mut reused));
+        }
+    });
+    let [ours, other] = b.turns_of(mine, other, 1.0, 2.0);
+    let (kind, what, column) = ("d2".to_string(), "all 1,296 numbers".to_string(), "4".to_string());
+    b.arranged.push(Row { call: ARRANGED, below: true, kind, what, column, other, ours, held: None });
+}
+
 fn quarter(shape: &[u64]) -> [u64; 4] {
     [shape[0] / 4, shape[1] / 4, shape[0] / 2, shape[1] / 2]
 }
@@ -1382,6 +1439,14 @@ fn guest_tables(b: &mut Bench) {
     }
 }
 
+fn arranged_tables(b: &mut Bench) {
+    arranged_rows(b);
+    println!(
+        "\n`{ARRANGED}`, by cells. Ratio: the time of a plain Rust loop with reused buffers and the same checks over ours.\n"
+    );
+    table(&b.arranged.iter().collect::<Vec<_>>());
+}
+
 fn main() {
     let args: Vec<String> = std::env::args().skip(1).collect();
     let archive = Archive::load(&args[0]).unwrap();
@@ -1403,6 +1468,13 @@ fn main() {
         println!();
         return tables_said(&b.guests, &GUEST);
     }
+    if only == "arrangement" {
+        arranged_tables(&mut b);
+        println!("\n| call | depth | with | cells | loop, ns | ours, ns | ratio |\n|---|---|---|---|---|---|---|");
+        b.arranged.iter().for_each(|row| println!("{}", whole(row)));
+        println!();
+        return tables_said(&b.arranged, &[ARRANGED]);
+    }
     if only == "interleaved" {
         interleaved_rows(&mut b);
         ratios(&b.rows);
@@ -1422,6 +1494,7 @@ fn main() {
     load_tables(&mut b);
     table_tables(&mut b);
     guest_tables(&mut b);
+    arranged_tables(&mut b);
     let copies = copies(&mut b);
     growth(&mut b);
 
@@ -1450,6 +1523,7 @@ fn main() {
     loads_said(&b);
     tables_said(&b.tables, &TABLE);
     tables_said(&b.guests, &GUEST);
+    tables_said(&b.arranged, &[ARRANGED]);
     println!("large plain copies at 0.7 of memcpy or more: {} (least {:.2})", said(least(&copies) >= 0.7), least(&copies));
     if let Some(file) = args.get(2) {
         let lines: Vec<String> = b
@@ -1462,6 +1536,7 @@ fn main() {
             .chain(b.loads.iter().flatten().map(whole))
             .chain(b.tables.iter().map(whole))
             .chain(b.guests.iter().map(whole))
+            .chain(b.arranged.iter().map(whole))
             .collect();
         std::fs::write(file, lines.join("\n") + "\n").unwrap();
     }

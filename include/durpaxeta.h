@@ -2,7 +2,7 @@
  * Durpaxeta: tables of optional and variable-length cells in one checked byte layout.
  *
  * Link with libdurpaxeta.a (x86-64). Nothing else is needed but memmove and memset, as of any C library.
- * The archive has the seventeen calls. All else is static inline here: kinds, answers in words, room for outputs, cells.
+ * The archive has the eighteen calls. All else is static inline here: kinds, answers in words, room for outputs, cells.
  *
  * A TABLE is a kind, a shape and its content.
  *
@@ -108,6 +108,8 @@ extern "C" {
 #define DPX_MAX_VALUE_BYTES 16777216 /* value bytes of a table        */
 #define DPX_MAX_STORE 16777216      /* bytes of a working table's store */
 #define DPX_MAX_MOVES 256           /* cells that one dpx_table_pack moves, from 1 */
+#define DPX_MAX_ARRANGED_DEPTH 2    /* mask levels of an arrangement; 0 is allowed */
+#define DPX_MAX_ARRANGED_CELLS 4    /* cells of an arrangement, from 1 */
 
 /* The answers, by who causes them. */
 enum dpx_refusal {
@@ -115,7 +117,7 @@ enum dpx_refusal {
 
     /* Whoever describes the table. */
     DPX_KIND = 1,   /* depth, size or another field of the kind is out of its range; of a working table also: the kind is not
-                       ragged, or not 1 to 256 cells are to be moved */
+                       ragged, or not 1 to 256 cells are to be moved; of an arrangement: depth over 2, or not 1 to 4 cells */
     DPX_SHAPE = 2,  /* no side, five or more, a side of 0, or over 65,536 cells (also as the count of the older form); a
                        working table of no cells, or of over 65,536 */
     DPX_SUBSET = 3, /* a subset reaches past its shape, or has not one start and one length a side; in a merge also: it
@@ -133,6 +135,9 @@ enum dpx_refusal {
     DPX_CELL = 15, /* the number of the cell is the count of cells, or above it */
     DPX_FULL = 16, /* the lengths of the cells would sum to more bytes than the store has */
     DPX_HIDDEN = 18, /* a guest's edit: the rights plane hides the cell */
+
+    /* Whoever numbers an arrangement. */
+    DPX_ARRANGEMENT = 19, /* the number of the arrangement is the count of arrangements, or above it */
 
     /* Whoever stored the bytes. */
     DPX_SHORT = 7,     /* under 16 bytes for a frame, 8 for ragged values, 4 * (1 + cells) for the older form */
@@ -152,6 +157,7 @@ enum dpx_refusal {
 #define DPX_DESCRIBER " (caused by whoever describes the table)"
 #define DPX_SUPPLIER " (caused by whoever hands over the array, chunk list, working table or rights plane)"
 #define DPX_SETTER " (caused by whoever sets the cell)"
+#define DPX_NUMBERER " (caused by whoever numbers the arrangement)"
 #define DPX_STORER " (caused by whoever stored the bytes)"
 #define DPX_LENDER " (caused by whoever lends the output)"
 static inline const char *dpx_refusal_text(uint32_t refusal)
@@ -159,7 +165,8 @@ static inline const char *dpx_refusal_text(uint32_t refusal)
     switch (refusal) {
     case DPX_OK: return "done";
     case DPX_KIND: return "refusal 1: the kind is out of range: depth 0 to 4, cell size 1 to 64 bytes, index width 4 or 8"
-                          " bytes (of a working table: ragged, and 1 to 256 cells to move)" DPX_DESCRIBER;
+                          " bytes (of a working table: ragged, and 1 to 256 cells to move; of an arrangement: ragged, depth 0"
+                          " to 2, and 1 to 4 cells)" DPX_DESCRIBER;
     case DPX_SHAPE: return "refusal 2: the shape is out of range: 1 to 4 sides, each at least 1, at most 65,536 cells in"
                            " all (of a working table: 1 to 65,536 cells)" DPX_DESCRIBER;
     case DPX_SUBSET: return "refusal 3: a subset reaches past the shape, or has not one start and one length for each side,"
@@ -184,12 +191,15 @@ static inline const char *dpx_refusal_text(uint32_t refusal)
     case DPX_FULL: return "refusal 16: the cells would have more bytes than the store" DPX_SETTER;
     case DPX_NO_MASKS: return "refusal 17: the kind has no masks, and only a mask can hide a cell from a guest" DPX_DESCRIBER;
     case DPX_HIDDEN: return "refusal 18: the rights plane hides that cell from the guest" DPX_SETTER;
+    case DPX_ARRANGEMENT: return "refusal 19: there is no arrangement of that number: there are depth + 4 to the power of the"
+                                 " cells, numbered from 0" DPX_NUMBERER;
     default: return "no answer of this version";
     }
 }
 #undef DPX_DESCRIBER
 #undef DPX_SUPPLIER
 #undef DPX_SETTER
+#undef DPX_NUMBERER
 #undef DPX_STORER
 #undef DPX_LENDER
 
@@ -272,6 +282,7 @@ typedef struct dpx_room {
  *   dpx_merge               cells of the shape,  bytes: values_len
  *   dpx_guest_read          cells of the shape,  bytes: values_len
  *   dpx_generate            cells of the shape,  bytes: 8 * cells
+ *   dpx_arrangement         its cells,           bytes: 3 * cells, kind: ragged, its depth
  *   dpx_table_read          its cells,           bytes: store_len
  *   dpx_partial_decode      cells of the subset, bytes: bytes_len, kind: ragged, depth 0
  *   dpx_decode_interleaved  its cells,           bytes: bytes_len, kind: ragged, depth 0
@@ -290,6 +301,17 @@ static inline dpx_room dpx_array_room(dpx_kind kind, uint64_t cells, size_t byte
         room.values = cells * kind.size;
     }
     return room;
+}
+
+/* Arrangements of `cells` cells of that depth: depth + 4 to the power `cells`; 0 where dpx_arrangement refuses them with 1. */
+static inline uint64_t dpx_arrangement_count(uint64_t depth, uint64_t cells)
+{
+    uint64_t count = 1, cell;
+    if (depth > DPX_MAX_ARRANGED_DEPTH || cells < 1 || cells > DPX_MAX_ARRANGED_CELLS)
+        return 0;
+    for (cell = 0; cell < cells; cell++)
+        count *= depth + 4;
+    return count;
 }
 
 /* The stored bytes of one level's mask over that many cells. */
@@ -548,6 +570,33 @@ uint32_t dpx_generate(dpx_kind kind,
                       uint8_t *out_values, size_t out_values_len,
                       uint64_t *out_offsets, size_t out_offsets_len,
                       uint64_t lengths[3]);
+
+/*
+ * One of the arrangements of a few ragged cells: every small table, by its number.
+ *
+ * A cell of depth d, 0 to 2, is in one of d + 4 states, numbered from 0: null at level 1 up to null at level d, level 1 being
+ * the outermost; then all masks set, with 0, 1, 2 and 3 value bytes. Value bytes are 00. Of n cells, 1 to 4, there are d + 4 to
+ * the power n arrangements (dpx_arrangement_count). The states of the cells are the digits of `number` in base d + 4, the first
+ * cell weighing most. So from 0 on each array of that size in rest form, with zero bytes and at most 3 of them in a cell, comes
+ * up once. It is valid for every ragged kind of that depth, and every shape of that many cells: width, place and mask form
+ * change nothing, and no kind is handed over.
+ * Enough room: dpx_array_room with 3 * cells. That is depth * cells masks, as many values as the cells have bytes, cells + 1
+ * offsets; 8 masks, 12 values and 5 offsets for any arrangement.
+ *
+ *   lengths[0]   mask bytes written: depth * cells
+ *   lengths[1]   value bytes written
+ *   lengths[2]   offsets written: cells + 1
+ *
+ * Refusals, in this order:
+ *   1 DPX_KIND         whoever describes the table: depth is over 2, or `cells` is not 1 to 4
+ *  19 DPX_ARRANGEMENT  whoever numbers the arrangement: `number` is the count of arrangements, or above it
+ *   6 DPX_OUTPUT       whoever lends the outputs
+ */
+uint32_t dpx_arrangement(uint64_t depth, uint64_t cells, uint64_t number,
+                         uint8_t *out_masks, size_t out_masks_len,
+                         uint8_t *out_values, size_t out_values_len,
+                         uint64_t *out_offsets, size_t out_offsets_len,
+                         uint64_t lengths[3]);
 
 /*
  * The cells of a subset out of an array.

@@ -28,7 +28,7 @@ $(O)/libagain.a: oracle/again/again.c oracle/again/again.h include/durpaxeta.h
 	@gcc -std=c11 -O3 -Wall -Wextra -Werror -Iinclude -c -o $(O)/again.o $<
 	@ar rcs $@ $(O)/again.o
 
-$(O)/driver: $(wildcard oracle/driver/*.rs) $(O)/libjudge.rlib $(O)/libagain.a $(O)/.rust
+$(O)/driver: $(wildcard oracle/driver/*.rs) oracle/data/arrangements.txt $(O)/libjudge.rlib $(O)/libagain.a $(O)/.rust
 	@$(RUSTC) -O -L $(O) --extern judge=$(O)/libjudge.rlib $(foreach b,standin_debug standin_release listed_debug listed_release,--extern $(b)=$(O)/lib$(b).rlib) -o $@ oracle/driver/main.rs
 
 # The archive as a shared object, so that one driver takes any archive.
@@ -90,7 +90,8 @@ $(O)/bench: $(wildcard bench/*.rs) oracle/driver/archive.rs oracle/driver/rng.rs
 	@$(RUSTC) -C opt-level=3 -L $(O) --extern standin_release=$(O)/libstandin_release.rlib -o $@ bench/main.rs
 
 # ROUNDS  of which the best counts. Every row with its times goes to build/oracle/bench.txt.
-# ONLY    interleaved: the rows of the interleaved form alone; generate: those of loads; table: those of working tables; guest: those of guests.
+# ONLY    interleaved: the rows of the interleaved form alone; generate: those of loads; table: those of working tables; guest: those of guests;
+#         arrangement: those of arrangements.
 ROUNDS ?= 25
 ONLY ?=
 .PHONY: bench

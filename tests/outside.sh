@@ -30,6 +30,7 @@ tests/documents.sh
 
 say 'exported names'
 diff <(nm --extern-only --defined-only --format=posix build/libdurpaxeta.a | awk 'NF > 1 {print $1}' | sort) - <<'END'
+dpx_arrangement
 dpx_decode
 dpx_decode_interleaved
 dpx_encode
@@ -48,7 +49,7 @@ dpx_table_preview
 dpx_table_read
 dpx_table_set
 END
-echo 'the seventeen calls, and nothing else'
+echo 'the eighteen calls, and nothing else'
 
 # The tests by cargo need nothing of those in C, and run beside them; what they say comes behind.
 cargo_tests() {

@@ -46,6 +46,9 @@ pub type GuestReadCall = unsafe extern "C" fn(DpxKind, In64, usize, In8, usize, 
 #[rustfmt::skip]
 pub type GuestEditCall = unsafe extern "C" fn(DpxKind, u64, In8, usize, Out8, usize, Out64, usize, Out64, usize, Out8, usize, u64, In8, usize, In8, usize) -> u32;
 
+#[rustfmt::skip]
+pub type ArrangementCall = unsafe extern "C" fn(u64, u64, u64, Out8, usize, Out8, usize, Out64, usize, Out64) -> u32;
+
 /// The functions.
 #[derive(Clone, Copy)]
 pub struct Archive {
@@ -66,6 +69,7 @@ pub struct Archive {
     pub table_preview: PreviewCall,
     pub guest_read: GuestReadCall,
     pub guest_edit: GuestEditCall,
+    pub arrangement: ArrangementCall,
 }
 impl Archive {
     pub fn load(path: &str) -> Result<Archive, String> {
@@ -99,6 +103,7 @@ impl Archive {
                 table_preview: transmute::<*mut c_void, PreviewCall>(find(c"dpx_table_preview")?),
                 guest_read: transmute::<*mut c_void, GuestReadCall>(find(c"dpx_guest_read")?),
                 guest_edit: transmute::<*mut c_void, GuestEditCall>(find(c"dpx_guest_edit")?),
+                arrangement: transmute::<*mut c_void, ArrangementCall>(find(c"dpx_arrangement")?),
             })
         }
     }

@@ -1,6 +1,7 @@
 //! The requests: exhaustive small ones, ones around each limit, large ones, and random ones with damaged copies. All of it is
 //! determined by the seed.
 
+use crate::arrangements;
 use crate::guests;
 use crate::request::{Request, Request::*};
 use crate::rng::Rng;
@@ -579,7 +580,8 @@ fn faulty(rng: &mut Rng, request: &Request) -> Request {
             }
             faulty_content(rng, masks, values, offsets);
         }
-        GuestEdit { .. } => {} // guests.rs
+        GuestEdit { .. } => {}   // guests.rs
+        Arrangement { .. } => {} // arrangements.rs
     }
     r
 }
@@ -1703,6 +1705,8 @@ pub fn all(sink: &mut dyn Sink, seed: u64, requests: u64) {
         tables::random(sink, tables);
         guests::random(sink, guests);
     }
+    arrangements::every(sink);
+    arrangements::limits(sink);
     guests::limits(sink, guests);
     guests::exhaustive(sink, guests);
     guests::blocks(sink, guests);

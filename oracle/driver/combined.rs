@@ -106,11 +106,8 @@ impl Compare {
         else {
             unreachable!()
         };
-        let answer = self.guarded.call(request, [masks.len(), values.len(), offsets.len(), 0]);
-        match self.guarded.results(request) {
-            Some(r) if answer == 0 => Ok(Content { masks: r.masks, values: r.values, offsets: r.offsets }),
-            _ => Err(format!("answer {answer} on the way, to {} {}", crate::CALLS[request.call()], shown(request))),
-        }
+        let r = self.given(request, [masks.len(), values.len(), offsets.len(), 0])?;
+        Ok(Content { masks: r.masks, values: r.values, offsets: r.offsets })
     }
 
     /// The ways end with one answer, and the same in every lent byte, whatever room there is.

@@ -255,6 +255,9 @@ impl Guarded {
                 Generate { kind, shape, start } => {
                     (a.generate)(c_kind(kind), n1.put(shape), shape.len(), *start, m, lent[0], v, lent[1], o, lent[2], n)
                 }
+                Arrangement { depth, cells, number } => {
+                    (a.arrangement)(*depth, *cells, *number, m, lent[0], v, lent[1], o, lent[2], n)
+                }
                 TableMake { kind, cells, masks, values, offsets, .. } => (a.table_make)(
                     c_kind(kind),
                     *cells,
@@ -445,7 +448,7 @@ impl Guarded {
                 n1.holds(shape) && n2.holds(subset) && b1.holds(masks) && b2.holds(values) && n3.holds(offsets)
             }
             PartialDecode { shape, subset, bytes, .. } => n1.holds(shape) && n2.holds(subset) && b1.holds(bytes),
-            ReverseEndianness { .. } => true,
+            ReverseEndianness { .. } | Arrangement { .. } => true,
             SubsetCells { shape, subset } => n1.holds(shape) && n2.holds(subset),
             Generate { shape, .. } => n1.holds(shape),
             TableMake { masks, values, offsets, .. } => b1.holds(masks) && b2.holds(values) && n1.holds(offsets),

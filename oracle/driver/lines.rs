@@ -124,6 +124,7 @@ pub fn request_line(request: &Request) -> String {
             put_bytes(l, cell_masks);
             put_bytes(l, value);
         }
+        Arrangement { depth, cells, number } => [depth, cells, number].into_iter().for_each(|&n| put_number(l, n)),
     }
     line
 }
@@ -166,16 +167,20 @@ fn table_comes_out(request: &Request) -> bool {
     matches!(request, TableMake { .. } | TableSet { .. } | TablePack { .. } | GuestEdit { .. })
 }
 
-struct Words<'a>(std::str::Split<'a, char>);
-impl Words<'_> {
-    fn number(&mut self) -> Result<u64, String> {
+/// The words of a line.
+pub struct Words<'a>(std::str::Split<'a, char>);
+impl<'a> Words<'a> {
+    pub fn of(text: &'a str) -> Words<'a> {
+        Words(text.split(' '))
+    }
+    pub fn number(&mut self) -> Result<u64, String> {
         let word = self.0.next().ok_or("the line ends early")?;
         word.parse().map_err(|_| format!("not a number: {word}"))
     }
-    fn numbers(&mut self) -> Result<Vec<u64>, String> {
+    pub fn numbers(&mut self) -> Result<Vec<u64>, String> {
         (0..self.number()?).map(|_| self.number()).collect()
     }
-    fn bytes(&mut self) -> Result<Vec<u8>, String> {
+    pub fn bytes(&mut self) -> Result<Vec<u8>, String> {
         let count = self.number()? as usize;
         if count == 0 {
             return Ok(vec![]);
@@ -196,7 +201,7 @@ impl Words<'_> {
 
 /// A line is a request and its answer, or a request alone.
 pub fn parse(text: &str) -> Result<(Request, Option<Outcome>), String> {
-    let mut w = Words(text.split(' '));
+    let mut w = Words::of(text);
     let request = match w.number()? {
         1 => Encode { kind: w.kind()?, shape: w.numbers()?, masks: w.bytes()?, values: w.bytes()?, offsets: w.numbers()? },
         2 => Decode { kind: w.kind()?, shape: w.numbers()?, bytes: w.bytes()? },
@@ -277,6 +282,7 @@ pub fn parse(text: &str) -> Result<(Request, Option<Outcome>), String> {
             cell_masks: w.bytes()?,
             value: w.bytes()?,
         },
+        18 => Arrangement { depth: w.number()?, cells: w.number()?, number: w.number()? },
         n => return Err(format!("no such call: {n}")),
     };
     if w.0.clone().next().is_none() {

@@ -9,6 +9,7 @@
 //! OBJECT is the archive as a shared object. The exit status is 0 where no difference was found.
 
 mod archive;
+mod arrangements;
 mod cases;
 mod combined;
 mod guarded;
@@ -22,6 +23,7 @@ mod rust;
 mod tables;
 
 use archive::Archive;
+use arrangements::{Arranged, Rows};
 use cases::Sink;
 use guarded::Guarded;
 use hidden::{NONE, hidden};
@@ -70,6 +72,8 @@ struct Compare {
     stop_at_first: bool,
     /// Requests at hand have a damaged copy of a stored string.
     damaged: bool,
+    /// Of oracle/data/arrangements.txt.
+    rows: Rows,
     counts: Counts,
 }
 /// Strings that `decode` accepts and `encode` writes again, the same bytes.
@@ -133,7 +137,7 @@ struct Guests {
     parts: u64,
 }
 const MASKS: [&str; 3] = ["no masks", "masks of bytes", "packed masks"];
-const ANSWERS: usize = 19;
+const ANSWERS: usize = 20;
 #[derive(Default)]
 struct Counts {
     requests: [[u64; ANSWERS]; CALLS.len()],
@@ -148,6 +152,7 @@ struct Counts {
     loads: HashSet<String>,
     tables: Tables,
     guests: Guests,
+    arranged: Arranged,
     /// By mask form, as in MASKS.
     again: [Again; 3],
     /// Requests that each build of the Rust answered: by its own function, as ragged cells, as the rest form.
@@ -157,7 +162,7 @@ struct Counts {
     /// As in BETWEEN.
     differences: [u64; BETWEEN.len()],
 }
-const BETWEEN: [&str; 11] = [
+const BETWEEN: [&str; 13] = [
     "archive and judge",
     "archive and Rust",
     "judge and Rust",
@@ -169,6 +174,8 @@ const BETWEEN: [&str; 11] = [
     "reads under two planes and under both",
     "a read before a cut and behind it",
     "reads before a merge and one behind it",
+    "an arrangement and its row",
+    "an arrangement and what is read of it again",
 ];
 
 fn say(outcome: &Outcome) -> String {
@@ -185,7 +192,8 @@ fn shown(request: &Request) -> String {
 impl Compare {
     fn new(object: &str, seed: u64) -> Result<Compare, String> {
         let guarded = Guarded::new(Archive::load(object)?);
-        Ok(Compare { guarded, rng: Rng(!seed), stop_at_first: false, damaged: false, counts: Counts::default() })
+        let (rng, counts) = (Rng(!seed), Counts::default());
+        Ok(Compare { guarded, rng, stop_at_first: false, damaged: false, rows: Rows::recorded(), counts })
     }
 
     fn differ(&mut self, between: usize, request: &Request, what: &str) {
@@ -215,6 +223,15 @@ impl Compare {
             self.differ(0, request, &format!("answer {answer}, but {fault}, with outputs of {lent:?}"));
         }
         answer
+    }
+
+    /// What the archive gives on the way to something else, into outputs of these lengths.
+    fn given(&mut self, request: &Request, lent: [usize; 4]) -> Result<request::Results, String> {
+        let answer = self.guarded.call(request, lent);
+        match self.guarded.results(request) {
+            Some(results) if answer == 0 => Ok(results),
+            _ => Err(format!("answer {answer} on the way, to {} {}", CALLS[request.call()], shown(request))),
+        }
     }
 
     /// Outputs of the exact lengths, longer ones, each one short, none at all. What comes out with the exact lengths.
@@ -439,6 +456,7 @@ impl Compare {
         self.with_a_twin(request, judged);
         self.edited_on_a_copy(request, &observed);
         self.rights_combined(request, judged);
+        self.arranged(request, &observed);
         if self.stop_at_first && self.counts.differences != [0; BETWEEN.len()] {
             let seen: Vec<&str> = (0..BETWEEN.len()).filter(|&i| self.counts.differences[i] > 0).map(|i| BETWEEN[i]).collect();
             println!("first difference at request {}: {}", self.asked(), seen.join(", "));
@@ -498,6 +516,7 @@ impl Compare {
             "rights that combine: {} reads under two planes, {} cuts and {} merges, of {parts} parts, with reads before and behind",
             combined[0], combined[1], combined[2]
         );
+        println!("{}", self.counts.arranged);
         println!(
             "a mask byte over 01: stored, refused with 14, in {} requests; handed over in {}",
             self.counts.requests[1][14], self.counts.over_01
@@ -537,6 +556,10 @@ impl Compare {
         let mut good = true;
         for (masks, _) in MASKS.iter().zip(&self.counts.again).filter(|(_, row)| row.damaged == 0) {
             println!("not met: a damaged copy with {masks}, written again");
+            good = false;
+        }
+        if self.counts.arranged.rows() != self.rows.count() {
+            println!("not met: a row of the arrangements");
             good = false;
         }
         for (call, refusals) in REFUSALS.iter().enumerate() {

@@ -22,11 +22,12 @@ pub enum Request {
     TablePreview { kind: KindNumbers, cells: u64, table: Table, cell: u64, cell_masks: Vec<u8>, value: Vec<u8> },
     GuestRead { kind: KindNumbers, shape: Vec<u64>, rights: Vec<u8>, masks: Vec<u8>, values: Vec<u8>, offsets: Vec<u64> },
     GuestEdit { kind: KindNumbers, cells: u64, rights: Vec<u8>, table: Table, cell: u64, cell_masks: Vec<u8>, value: Vec<u8> },
+    Arrangement { depth: u64, cells: u64, number: u64 },
 }
 use Request::*;
 
 /// In the order of the numbers that they have in oracle/data: a new call is the last.
-pub const CALLS: [&str; 17] = [
+pub const CALLS: [&str; 18] = [
     "encode",
     "decode",
     "decode_interleaved",
@@ -44,11 +45,12 @@ pub const CALLS: [&str; 17] = [
     "table_preview",
     "guest_read",
     "guest_edit",
+    "arrangement",
 ];
 
 /// The refusals that a call can give, by docs/DECISIONS.md, part 0. At the C boundary width and place come as numbers, so
 /// `partial_decode` has 1 as well.
-pub const REFUSALS: [&[u32]; 17] = [
+pub const REFUSALS: [&[u32]; 18] = [
     &[1, 2, 4, 5, 6],
     &[1, 2, 7, 8, 13, 14, 10, 5, 6],
     &[2, 7, 9, 11, 5, 6],
@@ -66,6 +68,7 @@ pub const REFUSALS: [&[u32]; 17] = [
     &[1, 2, 4, 5, 15, 16],
     &[1, 2, 17, 4, 5, 6],
     &[1, 2, 17, 4, 5, 15, 18, 16],
+    &[1, 19, 6],
 ];
 
 /// Results by slot: a call uses some of masks (or none), values (the stored bytes of `encode`, the bytes of `reverse_endianness`, the
@@ -114,6 +117,7 @@ impl Request {
             TablePreview { .. } => 14,
             GuestRead { .. } => 15,
             GuestEdit { .. } => 16,
+            Arrangement { .. } => 17,
         }
     }
 
@@ -170,6 +174,7 @@ impl Request {
             [false; 4],
             [true, true, true, false],
             [true, true, true, true],
+            [true, true, true, false],
         ][self.call()]
     }
 
@@ -251,6 +256,7 @@ impl Request {
             GuestEdit { kind, cells, rights, table, cell, cell_masks, value } => {
                 judge::guest_edit(*kind, *cells, rights, table, *cell, cell_masks, value).map(Results::from)
             }
+            Arrangement { depth, cells, number } => judge::arrangement(*depth, *cells, *number).map(Results::from),
         }
     }
 
@@ -268,7 +274,7 @@ impl Request {
             | DecodeInterleaved { bytes, .. }
             | PartialDecode { bytes, .. }
             | ReverseEndianness { bytes, .. } => bytes.len(),
-            SubsetCells { .. } | Generate { .. } => 0,
+            SubsetCells { .. } | Generate { .. } | Arrangement { .. } => 0,
             TableMake { masks, values, offsets, store, .. } => masks.len() + values.len() + offsets.len() + store,
             TableRead { table, .. }
             | TableSet { table, .. }

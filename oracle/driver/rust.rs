@@ -62,7 +62,7 @@ pub enum Body {
     /// again.
     AsRest,
     /// `subset_cells`: the indexers are not listed. `encode_interleaved`: vlen_v2.rs only reads. `generate`: there is no load. There is no
-    /// working table, so no guest's edit. Kinds with packed masks: the Rust has masks of bytes only.
+    /// working table, so no guest's edit; and no arrangement. Kinds with packed masks: the Rust has masks of bytes only.
     None,
 }
 pub fn body(request: &Request) -> Body {
@@ -73,7 +73,7 @@ pub fn body(request: &Request) -> Body {
         SubsetCells { .. } | EncodeInterleaved { .. } | Generate { .. } => Body::None,
         TableMake { .. } | TableRead { .. } | TableSet { .. } | TablePack { .. } | TablePreview { .. } => Body::None,
         GuestRead { kind, .. } if kind[0] > 0 => Body::AsRest,
-        GuestRead { .. } | GuestEdit { .. } => Body::None,
+        GuestRead { .. } | GuestEdit { .. } | Arrangement { .. } => Body::None,
         _ => Body::Own,
     }
 }
@@ -128,7 +128,7 @@ impl Build {
                 let stored = (self.encode)(four(kind), shape, &masks, values, offsets)?;
                 (self.decode)(four(kind), shape, &stored).map(array)
             }
-            GuestEdit { .. } => unreachable!(),
+            GuestEdit { .. } | Arrangement { .. } => unreachable!(),
         }
     }
 }

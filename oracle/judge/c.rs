@@ -605,3 +605,27 @@ pub unsafe extern "C" fn dpx_guest_edit(
         })
     }
 }
+
+#[unsafe(no_mangle)]
+pub unsafe extern "C" fn dpx_arrangement(
+    depth: u64,
+    cells: u64,
+    number: u64,
+    out_masks: *mut u8,
+    out_masks_count: usize,
+    out_values: *mut u8,
+    out_values_count: usize,
+    out_offsets: *mut u64,
+    out_offsets_count: usize,
+    lengths: *mut u64,
+) -> u32 {
+    unsafe {
+        deliver(
+            arrangement(depth, cells, number),
+            (out_masks, out_masks_count),
+            (out_values, out_values_count),
+            (out_offsets, out_offsets_count),
+            lengths,
+        )
+    }
+}

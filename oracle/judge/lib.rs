@@ -1,4 +1,4 @@
-//! The judge: what docs/SPEC.md and docs/DECISIONS.md say of the seventeen calls, as plain code.
+//! The judge: what docs/SPEC.md and docs/DECISIONS.md say of the eighteen calls, as plain code.
 //!
 //! Each function takes what the call takes, as numbers and slices, and gives the result or the refusal number. Outputs are not lent:
 //! `fits` says where a lent output is too short (6), and c.rs puts a result into lent outputs.
@@ -945,6 +945,42 @@ pub fn guest_edit(
     let cells = table_cells(cells)?;
     check_rights(kind, cells, rights)?;
     settled(kind, cells, Some(rights), table, cell, cell_masks, value)
+}
+
+// ---------------------------------------------------------------- small arrangements
+
+/// A cell's masks and value in one of its states: null at level 1 up to the innermost, then set with 0, 1, 2, 3 zero bytes.
+fn cell_in(depth: usize, state: usize) -> (Vec<u8>, Vec<u8>) {
+    if state < depth {
+        let masks = (0..depth).map(|level| u8::from(level < state)).collect();
+        return (masks, vec![]);
+    }
+    (vec![1; depth], vec![0; state - depth])
+}
+
+/// The states of the cells are the digits of the number, the first cell's the highest.
+pub fn arrangement(depth: u64, cells: u64, number: u64) -> Result<Array, Refusal> {
+    if depth > 2 || cells < 1 || cells > 4 {
+        return Err(1);
+    }
+    let (depth, cells, states) = (depth as usize, cells as usize, depth + 4);
+    let mut rest = number;
+    let mut digits = vec![];
+    for _ in 0..cells {
+        digits.insert(0, (rest % states) as usize);
+        rest /= states;
+    }
+    if rest > 0 {
+        return Err(19); // more digits than cells
+    }
+    let mut planes = vec![vec![]; depth];
+    let mut values = vec![];
+    for state in digits {
+        let (masks, value) = cell_in(depth, state);
+        (0..depth).for_each(|level| planes[level].push(masks[level]));
+        values.push(value);
+    }
+    Ok(array_of(Form::Ragged { width: 4, end: false }, &planes, &values))
 }
 
 // ---------------------------------------------------------------- 6

@@ -5,6 +5,7 @@
  * Of a read: two arrays that agree only where the plane shows them give the same, into outputs of any length, and it is what is worked
  * out here. Of an edit: where the plane shows the cell it is dpx_table_set, made on a copy, and no cell that the plane hides changes.
  */
+#include "faults.h"
 #include "held.h"
 #include "outputs.h"
 
@@ -22,15 +23,6 @@ static uint32_t draw(void)
 
 /* Whether every byte is 7, as all are at first. */
 static int all_are_7(const uint8_t *bytes) { return bytes[0] == 7 && memcmp(bytes, bytes + 1, OVER - 1) == 0; }
-
-/* Of faults whose bits stand in the order of the refusals, that of the first. */
-static uint32_t first_of(const uint32_t *order, size_t faults)
-{
-    for (; faults != 0; faults >>= 1, order++)
-        if (faults & 1)
-            return *order;
-    return DPX_OK;
-}
 
 /* ---------------------------------------------------------------------------------------------------------- read */
 

@@ -34,7 +34,7 @@ static void texts(void)
         for (other = 1; other < number; other++)
             CHECK(strcmp(text, dpx_refusal_text(other)) != 0);
     }
-    CHECK(number > DPX_HIDDEN);
+    CHECK(number > DPX_ARRANGEMENT);
 }
 
 static void counts(void)
@@ -50,6 +50,36 @@ static void counts(void)
     CHECK(dpx_cell_count(first, 1) == 0);
     CHECK(dpx_cell_count(five, 5) == 0);
     CHECK(dpx_cell_count(NULL, 0) == 0);
+}
+
+/* As many arrangements as are counted, and the room that is enough for the last, which needs all of it. */
+static void arrangements(void)
+{
+    const uint64_t counts[][4] = {{4, 16, 64, 256}, {5, 25, 125, 625}, {6, 36, 216, 1296}};
+    uint8_t masks[8], values[12];
+    uint64_t offsets[5], lengths[3], depth, cells;
+    dpx_cell cell;
+    for (depth = 0; depth <= DPX_MAX_ARRANGED_DEPTH; depth++)
+        for (cells = 1; cells <= DPX_MAX_ARRANGED_CELLS; cells++) {
+            const uint64_t count = dpx_arrangement_count(depth, cells);
+            const dpx_kind kind = dpx_ragged(depth, 4, DPX_START);
+            const dpx_room room = dpx_array_room(kind, cells, 3 * cells);
+            CHECK(count == counts[depth][cells - 1]);
+            CHECK(dpx_arrangement(depth, cells, count, masks, room.masks, values, room.values, offsets, room.offsets, lengths) ==
+                  DPX_ARRANGEMENT);
+            CHECK(dpx_arrangement(depth, cells, count - 1, masks, room.masks, values, room.values - 1, offsets, room.offsets, lengths) ==
+                  DPX_OUTPUT);
+            CHECK(dpx_arrangement(depth, cells, count - 1, masks, room.masks, values, room.values, offsets, room.offsets, lengths) == DPX_OK);
+            CHECK(lengths[0] == room.masks && lengths[1] == room.values && lengths[2] == room.offsets);
+            cell = dpx_get_cell(kind, cells, masks, values, offsets, cells - 1);
+            CHECK(cell.null_level == 0 && cell.length == 3);
+            CHECK(dpx_arrangement(depth, cells, 0, masks, room.masks, values, room.values, offsets, room.offsets, lengths) == DPX_OK);
+            cell = dpx_get_cell(kind, cells, masks, values, offsets, 0);
+            CHECK(cell.null_level == (depth != 0) && cell.length == 0);
+        }
+    CHECK(dpx_arrangement_count(3, 1) == 0 && dpx_arrangement_count(UINT64_MAX, 1) == 0);
+    CHECK(dpx_arrangement_count(0, 0) == 0 && dpx_arrangement_count(0, 5) == 0 && dpx_arrangement_count(0, UINT64_MAX) == 0);
+    CHECK(strstr(dpx_refusal_text(DPX_ARRANGEMENT), "refusal 19: ") != NULL);
 }
 
 /* A byte or a bit a cell. All else of a packed kind stays. */
@@ -262,6 +292,7 @@ int main(void)
     versions();
     texts();
     counts();
+    arrangements();
     mask_forms();
     marks();
     for (depth = 0; depth <= DPX_MAX_DEPTH; depth++) {

@@ -77,6 +77,12 @@ static void generate_fixed(void)
     answer = dpx_generate(dpx_fixed(4, 64, DPX_BIG), shape, 1, 7, out_masks, 4 * CELLS, load, sizeof load, NULL, 0, lengths);
 }
 
+/* The most cells, levels and bytes that an arrangement has. */
+static void arrangement(void)
+{
+    answer = dpx_arrangement(DPX_MAX_ARRANGED_DEPTH, DPX_MAX_ARRANGED_CELLS, 1295, out_masks, 8, out_values, 12, out_offsets, 5, lengths);
+}
+
 static void extract(void)
 {
     answer = dpx_extract(nested, shape, 1, whole, 2, masks, 4 * CELLS, values, CELLS, offsets, CELLS + 1, out_masks, 4 * CELLS, out_values,
@@ -246,6 +252,7 @@ int main(void)
                  {"generate", generate_once, 0},
                  {"generate, two runs", generate_twice, 0},
                  {"generate, fixed", generate_fixed, 0},
+                 {"arrangement", arrangement, 0},
                  {"extract", extract, 0},
                  {"merge", merge, 0},
                  {"partial_decode", partial_decode, 0},

@@ -18,6 +18,11 @@ pub struct Arguments {
     pub cell: Option<String>,
     pub to: Option<String>,
     pub most: Option<String>,
+    /// Of arrangements: how many cells, the number of the one to print, whether to count them, the folder for all of them.
+    pub cells: Option<String>,
+    pub number: Option<String>,
+    pub count: bool,
+    pub all: Option<OsString>,
     /// Of guests: the rights plane, or the file with it.
     pub rights: Option<String>,
     pub rights_file: Option<OsString>,
@@ -43,6 +48,7 @@ impl Arguments {
             "--interleaved" => Some(&mut self.interleaved),
             "--to-interleaved" => Some(&mut self.to_interleaved),
             "--strict" => Some(&mut self.strict),
+            "--count" => Some(&mut self.count),
             "--describe" => Some(&mut self.describe),
             "--no-clobber" => Some(&mut self.no_clobber),
             _ => None,
@@ -88,8 +94,13 @@ pub fn parse(command: &str, options: &[&str], files: &[&str], words: Vec<OsStrin
             Some(value) => OsString::from(value),
             None => behind(&mut words, &format!("{option} has no value"))?,
         };
-        if option == "--rights-file" {
-            once(&mut arguments.rights_file, option, value)?;
+        let named = match option {
+            "--rights-file" => Some(&mut arguments.rights_file),
+            "--all" => Some(&mut arguments.all),
+            _ => None,
+        };
+        if let Some(named) = named {
+            once(named, option, value)?;
             continue;
         }
         let value = readable(option, value)?;
@@ -105,6 +116,8 @@ pub fn parse(command: &str, options: &[&str], files: &[&str], words: Vec<OsStrin
             "--cell" => once(&mut arguments.cell, option, value)?,
             "--to" => once(&mut arguments.to, option, value)?,
             "--most" => once(&mut arguments.most, option, value)?,
+            "--cells" => once(&mut arguments.cells, option, value)?,
+            "--number" => once(&mut arguments.number, option, value)?,
             "--rights" => once(&mut arguments.rights, option, value)?,
             _ => once(&mut arguments.subset, option, value)?,
         }
@@ -169,7 +182,10 @@ mod tests {
         // A name of a file need be no text.
         let name = OsString::from_vec(b"rights\xFF".to_vec());
         let words = vec!["--rights-file".into(), name.clone(), "out".into()];
-        assert_eq!(parse("guest show", &["--rights-file"], &["FILE"], words).unwrap().rights_file, Some(name));
+        assert_eq!(parse("guest show", &["--rights-file"], &["FILE"], words).unwrap().rights_file, Some(name.clone()));
+        let words = vec!["--count".into(), "--all".into(), name.clone()];
+        let arguments = parse("arrangement", &["--all", "--count"], &[], words).unwrap();
+        assert_eq!((arguments.all, arguments.count), (Some(name), true));
     }
 
     #[test]

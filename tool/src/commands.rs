@@ -11,7 +11,7 @@ use crate::stored::{
     cells, given_kind, given_shape, missing_kind, missing_shape, stopped, undescribed, Given, Interleaved, Stored,
 };
 use crate::watch::Watch;
-use crate::{explain, guests, help, json, literal, tables, words, worksheet};
+use crate::{arrangements, explain, guests, help, json, literal, tables, words, worksheet};
 use durpaxeta::{
     decode, encode, encode_interleaved, extract, generate, merge, partial_decode, subset_cells, Array, Cell, Chunk,
     Kind, Refusal, Subset, Values,
@@ -27,7 +27,7 @@ struct Command {
     run: fn(&Arguments, &Watch) -> Result<u8, Failure>,
 }
 
-const COMMANDS: [Command; 18] = [
+const COMMANDS: [Command; 19] = [
     Command {
         name: "show",
         help: help::SHOW,
@@ -69,6 +69,13 @@ const COMMANDS: [Command; 18] = [
         options: &["--kind", "--shape", "--start", "--describe", "--no-clobber"],
         files: &["OUT"],
         run: make_load,
+    },
+    Command {
+        name: "arrangement",
+        help: help::ARRANGEMENT,
+        options: &["--kind", "--cells", "--number", "--count", "--all"],
+        files: &[],
+        run: arrangements::run,
     },
     Command {
         name: "check",

@@ -4,18 +4,19 @@ pub const VERSION: &str = concat!("durpaxeta ", env!("CARGO_PKG_VERSION"), "\n")
 
 pub const GENERAL: &str = r#"durpaxeta: stored tables of optional and variable-length cells
 
-  durpaxeta show      prints a stored table as a worksheet, one cell a line, or as JSON
-  durpaxeta write     makes a stored table from a worksheet
-  durpaxeta cut       takes a subset of the cells out of a stored table
-  durpaxeta merge     puts parts together into one stored table
-  durpaxeta convert   makes a stored table from the older, interleaved form, or that form from a table
-  durpaxeta generate  makes a stored table from a start number, the same on every machine
-  durpaxeta check     says whether a file is a valid table, and if not, why and at which byte
-  durpaxeta same      says whether two files are the same table, and if not, where they differ
-  durpaxeta explain   prints the stored bytes, field by field, with what they are
-  durpaxeta table     edits the cells of a working table: make, show, set, preview, pack
-  durpaxeta guest     gives a guest the cells that it may see, and no others: show, read, edit
-  durpaxeta example   prints a worksheet to begin with
+  durpaxeta show         prints a stored table as a worksheet, one cell a line, or as JSON
+  durpaxeta write        makes a stored table from a worksheet
+  durpaxeta cut          takes a subset of the cells out of a stored table
+  durpaxeta merge        puts parts together into one stored table
+  durpaxeta convert      makes a stored table from the older, interleaved form, or that form from a table
+  durpaxeta generate     makes a stored table from a start number, the same on every machine
+  durpaxeta arrangement  gives every table of a few cells, by its number: one as a worksheet, or all as files
+  durpaxeta check        says whether a file is a valid table, and if not, why and at which byte
+  durpaxeta same         says whether two files are the same table, and if not, where they differ
+  durpaxeta explain      prints the stored bytes, field by field, with what they are
+  durpaxeta table        edits the cells of a working table: make, show, set, preview, pack
+  durpaxeta guest        gives a guest the cells that it may see, and no others: show, read, edit
+  durpaxeta example      prints a worksheet to begin with
 
 'durpaxeta help COMMAND' or 'durpaxeta COMMAND --help' tells more about each; 'durpaxeta help' prints this page.
 
@@ -49,14 +50,14 @@ Where write, cut, merge, convert, generate, table and guest write to:
 
 Exit status:
   0         all went well, and all of it was delivered
-  1 to 18   the number of the refusal, whether or not anyone read the words to it
+  1 to 19   the number of the refusal, whether or not anyone read the words to it
   64        a wrong command line, or an output that is also an input
   65        a worksheet, a listing of a working table, or a file with a rights plane, that cannot be read
   66        a description that cannot be read
   67        --kind, --shape or --part that differ from the description; same, merge: two that do not go together
   68, 69    a file of another length (68) or checksum (69) than its description says
   71        same: two valid files that are not the same table
-  73        --no-clobber: the output is there already
+  73        --no-clobber: the output is there already; arrangement --all: so is the folder, and it is not empty
   74        an error of the operating system; so is an output that was closed
   141       standard output's reader left before all was written, as in '.. | head'; nothing is told
 
@@ -191,6 +192,33 @@ Examples:
   durpaxeta generate --kind "depth 2, ragged, width 4, index at start" --shape 256x256 --start 7 --describe load.bin
   cat load.bin.dpx
   durpaxeta check load.bin
+"#;
+
+pub const ARRANGEMENT: &str = r#"durpaxeta arrangement --kind KIND --cells CELLS --number NUMBER
+durpaxeta arrangement --kind KIND --cells CELLS --count
+durpaxeta arrangement --kind KIND --cells CELLS --all FOLDER
+
+Every table of 1 to 4 ragged cells, by its number: a complete set to accept a panel by, or any program that shows tables. The kind is
+ragged, of depth 0 to 2. A cell is null at level 1, and so on to the innermost, or it has a value of 0, 1, 2 or 3 zero bytes: these are
+its states, numbered from 0. A number has the state of each cell as a digit, the first cell weighing most. Each table in rest form with
+such values comes up once. docs/FORMAT.md, part 17.
+
+  --number   prints one as a worksheet, which 'durpaxeta write' stores
+  --count    prints how many there are; their numbers begin with 0
+  --all      makes a folder with all of them, stored: 00.bin, 01.bin and so on, with as many digits as the last one has, and index.txt,
+             which says kind and shape, and of each file its number, the masks level by level, the length of each cell, and what each
+             cell is. There are 1,296 files at most, and the index. The folder is new or empty, any other is kept (73). On an error, or
+             on a signal that ends the command, nothing is left of it; what kill -9 leaves beside it, the next one that makes it removes.
+
+1 is a fixed kind, a depth over 2, or not 1 to 4 cells; 19 is a number at or past the count.
+
+Examples:
+  durpaxeta arrangement --kind "depth 2, ragged, width 4, index at start" --cells 2 --number 8
+  durpaxeta arrangement --kind "depth 2, ragged, width 4, index at start" --cells 4 --count
+  durpaxeta arrangement --kind "depth 2, ragged, width 4, index at start" --cells 2 --all set
+  grep '^8 ' set/index.txt
+  durpaxeta show --kind "depth 2, ragged, width 4, index at start" --shape 2 set/08.bin
+  durpaxeta arrangement --kind "depth 0, packed masks, ragged, width 8, index at end" --cells 1 --number 4 2>&1 || echo "refused with $?"
 "#;
 
 pub const CHECK: &str = r#"durpaxeta check [--kind KIND --shape SHAPE] [--strict] FILE

@@ -1,9 +1,10 @@
 //! The command `durpaxeta`: shows, writes, cuts, merges, converts, generates, checks, compares and explains stored
-//! tables, edits working ones, and gives guests what they may see.
+//! tables, gives every small one, edits working ones, and gives guests what they may see.
 
 #![deny(unsafe_code)]
 
 mod arguments;
+mod arrangements;
 mod commands;
 mod crc;
 mod describe;

@@ -1,7 +1,7 @@
 //! Outputs. A file is replaced whole or stays as it was: its bytes go to a temporary file in the same folder, are synced,
 //! and take the place of the old ones in one step. On a failure or a signal the temporary file is removed; what a command
 //! that was killed left is removed by the next one that writes the file. Commands that write one file take turns.
-//! What is no regular file (a pipe, a device) is written as it comes.
+//! What is no regular file (a pipe, a device) is written as it comes. A folder of files is made in the same way, whole or not at all.
 
 use crate::crc::crc32c;
 use crate::failure::{Failure, KEPT, SYSTEM};
@@ -13,7 +13,7 @@ use std::fs::{self, File, Metadata, OpenOptions, Permissions};
 use std::io::{self, ErrorKind, Write};
 use std::os::fd::AsFd;
 use std::os::unix::ffi::OsStrExt;
-use std::os::unix::fs::{fchown, MetadataExt, OpenOptionsExt, PermissionsExt};
+use std::os::unix::fs::{chown, fchown, MetadataExt, OpenOptionsExt, PermissionsExt};
 use std::path::{Path, PathBuf};
 use std::thread;
 use std::time::Duration;
@@ -106,14 +106,14 @@ impl Output {
             _ => Failure::system("write", &self.name, error),
         }
     }
+}
 
-    fn takes_no_new_file(&self, error: &io::Error) -> Failure {
-        Failure::system("write", &format!("{}, as its folder takes no new file", self.name), error)
-    }
+fn takes_no_new_file(name: &str, error: &io::Error) -> Failure {
+    Failure::system("write", &format!("{name}, as its folder takes no new file"), error)
+}
 
-    fn stopped(&self) -> Failure {
-        Failure::plain(SYSTEM, format!("cannot write {}: stopped by a signal", self.name))
-    }
+fn stopped(name: &str) -> Failure {
+    Failure::plain(SYSTEM, format!("cannot write {name}: stopped by a signal"))
 }
 
 fn way(path: &OsStr) -> io::Result<Way> {
@@ -173,7 +173,7 @@ pub struct Place<'o> {
 /// What the names of all temporary files begin with. The names are short, so that they fit wherever the output's does.
 const TEMPORARY: &str = ".durpaxeta-";
 
-/// So many temporary files has one turn at most: the table, its description, and that of both tables.
+/// So many temporary files has one turn at most: the table, its description, and that of both tables. A folder is one.
 const MOST: u32 = 3;
 
 /// The turn to write a file: whoever has it writes the file and its description alone, and reads what they are now.
@@ -186,15 +186,19 @@ pub struct Turn {
 }
 
 impl Turn {
-    /// Waits for the turn. On a file system without locks nobody waits, and nothing that was left is known for it.
     pub fn take(place: Place<'_>, watch: &Watch) -> Result<Turn, Failure> {
-        let (output, folder) = (place.output, folder(place.path).to_path_buf());
+        Turn::wait(&place.output.name, place.path, watch)
+    }
+
+    /// Waits for the turn. On a file system without locks nobody waits, and nothing that was left is known for it.
+    fn wait(name: &str, place: &Path, watch: &Watch) -> Result<Turn, Failure> {
+        let folder = folder(place).to_path_buf();
         let held = system::hold();
-        let stem = format!("{:08X}", crc32c(place.path.file_name().unwrap_or_default().as_bytes()));
+        let stem = format!("{:08X}", crc32c(place.file_name().unwrap_or_default().as_bytes()));
         let path = folder.join(format!("{TEMPORARY}{stem}-lock"));
         let mut looks = 0;
         let lock = loop {
-            match LockFile::take(&path).map_err(|error| output.takes_no_new_file(&error))? {
+            match LockFile::take(&path).map_err(|error| takes_no_new_file(name, &error))? {
                 Taken::Own(lock) => break Some(lock),
                 Taken::Nobody => break None,
                 Taken::Another => {}
@@ -204,16 +208,16 @@ impl Turn {
             if held.arrived() {
                 // The signal ends the command as soon as it is not held.
                 watch.hush();
-                return Err(output.stopped());
+                return Err(stopped(name));
             }
-            watch.doing(format!("waiting for another command that writes {}", output.name));
+            watch.doing(format!("waiting for another command that writes {name}"));
             looks += 1;
         };
         let turn = Turn { lock, folder, stem, held };
         if turn.lock.is_some() {
             // Of a command that was killed: one that is alive would have the lock.
             for number in 0..MOST {
-                let _ = fs::remove_file(turn.temporary(&turn.folder, number));
+                remove(&turn.temporary(&turn.folder, number));
             }
         }
         Ok(turn)
@@ -246,8 +250,9 @@ impl Turn {
             OpenOptions::new().write(true).open(place.path).map_err(failed)?;
         }
         let mode = there.map_or(0o666, |about| about.mode() & 0o777);
-        let created = self.create(folder(place.path), mode);
-        let (temporary, mut file) = created.map_err(|error| output.takes_no_new_file(&error))?;
+        let new = |path: &Path| OpenOptions::new().write(true).create_new(true).mode(mode).open(path);
+        let created = self.create(folder(place.path), new);
+        let (temporary, mut file) = created.map_err(|error| takes_no_new_file(&output.name, &error))?;
         if let Some(about) = there {
             let own = file.metadata().map_err(failed)?;
             if (own.uid(), own.gid()) != (about.uid(), about.gid()) {
@@ -260,17 +265,18 @@ impl Turn {
         watch.doing(format!("syncing {}", output.name));
         sync(&file).map_err(failed)?;
         if self.held.arrived() {
-            return Err(output.stopped());
+            return Err(stopped(&output.name));
         }
         Ok(Ready { place, temporary, _turn: self })
     }
 
-    fn create(&self, folder: &Path, mode: u32) -> io::Result<(Temporary, File)> {
+    /// Something new in a folder.
+    fn create<T>(&self, folder: &Path, new: impl Fn(&Path) -> io::Result<T>) -> io::Result<(Temporary, T)> {
         let mut number = 0;
         loop {
             let path = self.temporary(folder, number);
-            match OpenOptions::new().write(true).create_new(true).mode(mode).open(&path) {
-                Ok(file) => return Ok((Temporary(Some(path)), file)),
+            match new(&path) {
+                Ok(made) => return Ok((Temporary(Some(path)), made)),
                 Err(error) if error.kind() == ErrorKind::AlreadyExists && number < 1000 => number += 1,
                 Err(error) => return Err(error),
             }
@@ -332,19 +338,27 @@ impl Drop for LockFile {
     }
 }
 
-/// A temporary file; removed when it goes, unless it was put in its place.
+/// A temporary file or folder; removed when it goes, unless it was put in its place.
 struct Temporary(Option<PathBuf>);
 
 impl Drop for Temporary {
     fn drop(&mut self) {
         if let Some(path) = &self.0 {
-            let _ = fs::remove_file(path);
+            remove(path);
         }
     }
 }
 
+fn remove(path: &Path) {
+    let _ = if path.is_dir() { fs::remove_dir_all(path) } else { fs::remove_file(path) };
+}
+
 fn sync(file: &File) -> io::Result<()> {
-    match file.sync_all() {
+    synced(file.sync_all())
+}
+
+fn synced(answer: io::Result<()>) -> io::Result<()> {
+    match answer {
         // Some file systems have nothing to sync.
         Err(error) if matches!(error.kind(), ErrorKind::InvalidInput | ErrorKind::Unsupported) => Ok(()),
         synced => synced,
@@ -386,10 +400,76 @@ impl Place<'_> {
 
     /// So that the next file does not come to its place before this one, whenever the power fails.
     fn sync(&self) -> Result<(), Failure> {
-        File::open(folder(self.path)).and_then(|folder| sync(&folder)).map_err(|error| {
-            let name = format!("{}, which is in its place", self.output.name);
-            Failure::system("sync the folder of", &name, &error)
-        })
+        sync_folder_of(&self.output.name, self.path)
+    }
+}
+
+fn sync_folder_of(name: &str, path: &Path) -> Result<(), Failure> {
+    File::open(folder(path))
+        .and_then(|folder| sync(&folder))
+        .map_err(|error| Failure::system("sync the folder of", &format!("{name}, which is in its place"), &error))
+}
+
+/// Makes a folder of files, or nothing: they go to a temporary folder beside it, which takes its place in one step when all are
+/// stored safely. What is there already is kept, but for an empty folder. Commands that make one folder take turns, as with a file.
+pub fn write_folder(path: &OsStr, files: &[(String, Vec<u8>)], watch: &Watch) -> Result<(), Failure> {
+    let name = files::name(path, "");
+    let place = files::follow(path).map_err(|error| Failure::system("write", &name, &error))?;
+    if place.file_name().is_none() {
+        return Err(Failure::usage(format!("{name} is no name for a new folder")));
+    }
+    not_taken(&name, &place)?;
+    let turn = Turn::wait(&name, &place, watch)?;
+    let made = make_folder(&turn, &name, &place, files, watch);
+    // While the turn holds signals back: one that arrived ends the command.
+    watch.hush();
+    made
+}
+
+fn make_folder(
+    turn: &Turn,
+    name: &str,
+    place: &Path,
+    files: &[(String, Vec<u8>)],
+    watch: &Watch,
+) -> Result<(), Failure> {
+    let failed = |error: io::Error| Failure::system("write", name, &error);
+    // Looked at again, as now nobody else makes it.
+    not_taken(name, place)?;
+    let there = fs::symlink_metadata(place).ok();
+    watch.step(format!("writing {name}"), Some(files.len() as u64), "files");
+    let created = turn.create(folder(place), |path| fs::create_dir(path));
+    let (mut temporary, ()) = created.map_err(|error| takes_no_new_file(name, &error))?;
+    let Some(own) = temporary.0.clone() else { return Ok(()) };
+    for (number, (file, bytes)) in files.iter().enumerate() {
+        if turn.held.arrived() {
+            return Err(stopped(name));
+        }
+        fs::write(own.join(file), bytes).map_err(failed)?;
+        watch.done(number as u64 + 1);
+    }
+    if let Some(about) = there {
+        // As in `Turn::store`.
+        let _ = chown(&own, Some(about.uid()), Some(about.gid()));
+        fs::set_permissions(&own, Permissions::from_mode(about.mode() & 0o7777)).map_err(failed)?;
+    }
+    watch.doing(format!("syncing {name}"));
+    File::open(&own).and_then(|folder| synced(system::sync_around(&folder))).map_err(failed)?;
+    if turn.held.arrived() {
+        return Err(stopped(name));
+    }
+    // It takes the place of nothing but an empty folder: should something have come there meanwhile, that is kept.
+    fs::rename(&own, place).map_err(|error| not_taken(name, place).err().unwrap_or_else(|| failed(error)))?;
+    temporary.0 = None;
+    sync_folder_of(name, place)
+}
+
+/// Refuses a place where anything but an empty folder is.
+fn not_taken(name: &str, place: &Path) -> Result<(), Failure> {
+    let is_empty_folder = || fs::read_dir(place).is_ok_and(|mut there| there.next().is_none());
+    match fs::symlink_metadata(place).is_ok() && !is_empty_folder() {
+        true => Err(Failure::plain(KEPT, format!("{name} is there already, and is no empty folder"))),
+        false => Ok(()),
     }
 }
 

@@ -1,4 +1,5 @@
-//! What std has no words for: signals, locks, and standard descriptors that were closed when the command began.
+//! What std has no words for: signals, locks, standard descriptors that were closed when the command began, and a sync of many
+//! files.
 
 #![allow(unsafe_code)]
 
@@ -25,6 +26,7 @@ extern "C" {
     fn signal(number: c_int, handler: usize) -> usize;
     fn raise(number: c_int) -> c_int;
     fn flock(descriptor: c_int, operation: c_int) -> c_int;
+    fn syncfs(descriptor: c_int) -> c_int;
 }
 
 /// Who has the lock on a file, when it was asked for.
@@ -74,6 +76,15 @@ pub fn output_was_closed() -> bool {
 pub fn tell_of_long_files() {
     // SAFETY: ignoring a signal runs no code of ours.
     unsafe { signal(SIGXFSZ, SIG_IGN) };
+}
+
+/// Syncs the file system in which a file or a folder lies: many new files at once.
+pub fn sync_around(file: &File) -> io::Result<()> {
+    // SAFETY: the descriptor is open as long as `file` is.
+    match unsafe { syncfs(file.as_raw_fd()) } {
+        0 => Ok(()),
+        _ => Err(io::Error::last_os_error()),
+    }
 }
 
 /// The last signal that was held back; 0 is none.

@@ -17,7 +17,7 @@ pub fn missing(option: &str, example: &str) -> Failure {
     Failure::usage(format!("{option} is missing; for example {option} {example}"))
 }
 
-fn number(option: &str, given: &Option<String>, example: &str) -> Result<u64, Failure> {
+pub fn number(option: &str, given: &Option<String>, example: &str) -> Result<u64, Failure> {
     let text = given.as_ref().ok_or_else(|| missing(option, example))?;
     read_number(text.trim()).ok_or_else(|| Failure::usage(format!("\"{text}\" is no number; write {option} {example}")))
 }

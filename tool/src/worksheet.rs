@@ -59,17 +59,19 @@ fn sheet(array: &Array, hex: bool, null: &str) -> String {
         } else {
             text.push_str(&literal::spaced(&masks));
         }
-        match array.cell(number) {
-            Some(Cell::Null { level }) => {
-                let _ = writeln!(text, " | null at level {level}");
-            }
-            Some(Cell::Value(value)) => {
-                let _ = writeln!(text, " | value {}", literal::write(value, hex || fixed));
-            }
-            None => {}
+        if let Some(cell) = array.cell(number) {
+            let _ = writeln!(text, " | {}", what(cell, hex || fixed));
         }
     }
     text
+}
+
+/// What a cell is, as it stands behind the masks.
+pub fn what(cell: Cell<'_>, hex: bool) -> String {
+    match cell {
+        Cell::Null { level } => format!("null at level {level}"),
+        Cell::Value(value) => format!("value {}", literal::write(value, hex)),
+    }
 }
 
 /// Reads a worksheet.

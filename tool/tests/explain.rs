@@ -45,6 +45,8 @@ fn the_pictures_of_the_page() {
         (KIND, "2x2"),
         (KIND, "2x2"),
         (KIND, "1x2"),
+        (KIND, "2"),
+        ("depth 1, ragged, width 4, index at start", "2"),
     ];
     let pictures: Vec<&str> = page.split("```bytes\n").skip(1).map(|rest| rest.split("```").next().unwrap()).collect();
     assert_eq!(pictures.len(), tables.len());

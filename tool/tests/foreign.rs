@@ -65,7 +65,7 @@ fn line(words: &str, word: &OsStr) -> Vec<OsString> {
 }
 
 /// Each command with hostile names of files, there and not there, good and damaged.
-const FILES: [&str; 49] = [
+const FILES: [&str; 53] = [
     "show --kind KIND --shape 2x2 none%",
     "show none%",
     "show described/%",
@@ -95,6 +95,10 @@ const FILES: [&str; 49] = [
     "convert --kind depth%0,ragged,width%4,index%at%start --shape 2 damaged/% out",
     "convert --to-interleaved described/% out",
     "generate --kind KIND --shape 2x2 --start 1 none/%",
+    "arrangement --kind KIND --cells 1 --all none/%",
+    "arrangement --kind KIND --cells 1 --all tables/%",
+    "arrangement --kind KIND --cells 1 --all %/..",
+    "arrangement --kind KIND --cells 4 --number 1296 %",
     "check described/%",
     "check --kind KIND --shape 2x2 tables/%",
     "check --kind KIND --shape 2x2 damaged/%",
@@ -118,7 +122,7 @@ const FILES: [&str; 49] = [
 ];
 
 /// Hostile words on the command line.
-const WORDS: [&str; 26] = [
+const WORDS: [&str; 30] = [
     "%",
     "help %",
     "help show %",
@@ -137,6 +141,10 @@ const WORDS: [&str; 26] = [
     "merge --kind KIND --shape 2x2 --part % f out",
     "convert --kind % --shape 2 f out",
     "generate --kind KIND --shape 2x2 --start % out",
+    "arrangement --kind depth%9,%ragged --cells 2 --count",
+    "arrangement --kind KIND --cells % --count",
+    "arrangement --kind KIND --cells 2 --number %",
+    "arrangement --kind KIND --cells 2 --number 99 %",
     "check --strict=% f",
     "same --kind % a b",
     "explain --shape % f",

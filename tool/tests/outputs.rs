@@ -286,6 +286,75 @@ fn what_was_left_is_removed() {
     }
 }
 
+/// The most files that one command makes.
+const SET: [&str; 7] = ["arrangement", "--kind", KIND, "--cells", "4", "--all", "set"];
+
+/// A folder of files is whole or not there.
+#[test]
+fn a_signal_while_a_folder_is_made_leaves_nothing() {
+    let folder = prepared("folders", 10);
+    let before = contents(&folder);
+    for (number, name) in SIGNALS {
+        let mut tries = 0;
+        loop {
+            let status = stopped_while_writing(&folder, start(&folder, &SET)).map(|mut child| {
+                send(&child, number);
+                send(&child, SIGCONT);
+                child.wait().unwrap()
+            });
+            let there = folder.join("set").exists();
+            match status {
+                Some(status) if !there => {
+                    assert_eq!(status.signal(), Some(number), "{name}: {status}");
+                    break;
+                }
+                // Too late, or it was killed outright and left its temporary folder.
+                _ => sh(&folder, "rm -rf set .durpaxeta-*"),
+            };
+            tries += 1;
+            assert!(tries < 100, "{name} never came in time");
+        }
+        assert!(!temporary(&folder), "{name}: something was left");
+        assert!(contents(&folder) == before, "{name}: something was changed");
+    }
+}
+
+/// Who makes a folder that another command makes waits, and then finds it or makes it; what a command that was killed left is removed.
+#[test]
+fn a_folder_has_its_turns_too() {
+    let folder = prepared("folder-turns", 10);
+    let stopped = || {
+        let one = |_| {
+            sh(&folder, "rm -rf set .durpaxeta-*");
+            stopped_while_writing(&folder, start(&folder, &SET))
+        };
+        (0..100).find_map(one).expect("it never was slow enough")
+    };
+    let one = ["arrangement", "--kind", KIND, "--cells", "1", "--all", "set"];
+    let (mut first, (mut shows, has)) = (stopped(), terminal());
+    let mut second = start_telling(&folder, &one, has.into());
+    let told = "durpaxeta: waiting for another command that writes set";
+    let all = shown(&mut shows, Some(told));
+    assert!(all.contains(told), "{all:?}");
+    send(&first, SIGCONT);
+    assert!(first.wait().unwrap().success());
+    let all = shown(&mut shows, None);
+    assert!(all.ends_with(&format!("{ERASED}durpaxeta: set is there already, and is no empty folder\r\n")), "{all:?}");
+    assert_eq!(second.wait().unwrap().code(), Some(73));
+    assert_eq!(fs::read_dir(folder.join("set")).unwrap().count(), 1297);
+    assert!(!temporary(&folder));
+
+    let mut killed = stopped();
+    killed.kill().unwrap();
+    killed.wait().unwrap();
+    assert!(writing(&folder) && !folder.join("set").exists());
+    good(&folder, &["write", "guests.txt", "other.bin"]);
+    assert!(writing(&folder));
+    good(&folder, &one);
+    assert_eq!(fs::read_dir(folder.join("set")).unwrap().count(), 7);
+    assert!(!temporary(&folder));
+}
+
 /// A signal that was ignored stays so: a command under nohup goes on.
 #[test]
 fn an_ignored_signal_stays_ignored() {
@@ -359,6 +428,8 @@ fn a_reader_that_leaves_is_no_error() {
         &["guest", "show", "--rights", "1,1,1,1", "described.bin"],
         &["guest", "read", "--rights", "1,1,1,1", "described.bin", "-"],
         &["guest", "edit", "--rights", "1,1,1,1", "--cell", "0,0", "--to", "null at level 1", "work.txt", "-"],
+        &["arrangement", "--kind", KIND, "--cells", "2", "--number", "8"],
+        &["arrangement", "--kind", KIND, "--cells", "2", "--count"],
         &["example"],
         &["help"],
         &["help", "show"],

@@ -123,6 +123,19 @@ extern "C" {
         lengths: *mut u64,
     ) -> u32;
 
+    fn dpx_arrangement(
+        depth: u64,
+        cells: u64,
+        number: u64,
+        out_masks: *mut u8,
+        out_masks_len: usize,
+        out_values: *mut u8,
+        out_values_len: usize,
+        out_offsets: *mut u64,
+        out_offsets_len: usize,
+        lengths: *mut u64,
+    ) -> u32;
+
     fn dpx_extract(
         kind: RawKind,
         shape: *const u64,
@@ -504,6 +517,26 @@ pub fn generate(kind: Kind, shape: &[u64], start: u32, out: &mut Lent<'_>) -> An
         )
     };
     answer(number)?;
+    Ok(room(lengths[0], lengths[1], lengths[2]))
+}
+
+pub fn arrangement(depth: u64, cells: u64, number: u64, out: &mut Lent<'_>) -> Answer<Room> {
+    let mut lengths = [0; 3];
+    let refusal = unsafe {
+        dpx_arrangement(
+            depth,
+            cells,
+            number,
+            out.masks.as_mut_ptr(),
+            out.masks.len(),
+            out.values.as_mut_ptr(),
+            out.values.len(),
+            out.offsets.as_mut_ptr(),
+            out.offsets.len(),
+            lengths.as_mut_ptr(),
+        )
+    };
+    answer(refusal)?;
     Ok(room(lengths[0], lengths[1], lengths[2]))
 }
 

@@ -145,8 +145,8 @@ impl Kind {
 
     /// The room that an array of that many cells needs: of [`decode_into`](crate::decode_into) with `bytes` stored bytes, of
     /// [`extract_into`](crate::extract_into), [`merge_into`](crate::merge_into) and [`guest_read_into`](crate::guest_read_into)
-    /// with `bytes` value bytes, of [`generate_into`](crate::generate_into) with 8 for each cell. All of it is used but for ragged
-    /// values, which may be shorter.
+    /// with `bytes` value bytes, of [`generate_into`](crate::generate_into) with 8 for each cell, of
+    /// [`arrangement_into`](crate::arrangement_into) with 3. All of it is used but for ragged values, which may be shorter.
     /// What a call refuses has little room or none.
     ///
     /// ```

@@ -3,10 +3,11 @@
 //! A cell of a table is null at some level, or it has a value; the value may be empty. [`Cell`] tells the two apart.
 //! This crate wraps the archive `libdurpaxeta.a`: it lends the outputs, sized by itself, and hands back owned results.
 //! Every function answers a result or one [`Refusal`], which knows its number, its meaning and who causes it.
-//! [`encode_into`], [`encode_interleaved_into`], [`decode_into`], [`extract_into`], [`merge_into`], [`generate_into`] and
-//! [`guest_read_into`] write into slices that the caller lends instead.
+//! [`encode_into`], [`encode_interleaved_into`], [`decode_into`], [`extract_into`], [`merge_into`], [`generate_into`],
+//! [`arrangement_into`] and [`guest_read_into`] write into slices that the caller lends instead.
 //! A [`Table`] is one whose cells are edited in memory; [`table_make_into`], [`table_read_into`] and [`TableMut`] do that in lent slices.
 //! [`Rights`] are the cells that a guest may see; [`guest_read`] and [`Table::guest_edit`] show and set no other.
+//! [`arrangements`] are all tables of a few cells, an acceptance set for those who show tables; [`arrangement`] is one by its number.
 //! The crate needs `core` and `alloc` only.
 //!
 //! Masks come before values, and values before offsets, everywhere.
@@ -30,6 +31,7 @@
 
 extern crate alloc;
 
+mod arrangement;
 mod array;
 mod calls;
 mod ffi;
@@ -42,6 +44,7 @@ mod subset;
 mod table;
 mod text;
 
+pub use arrangement::{arrangement, arrangement_count, arrangement_into, arrangements, Arrangements};
 pub use array::{Array, ArrayRef, Cell, Cells, Mark, RaggedValues};
 pub use calls::{
     decode, decode_interleaved, decode_into, encode, encode_interleaved, encode_interleaved_into, encode_into, extract,
@@ -69,3 +72,7 @@ pub const MAX_VALUE_BYTES: u64 = 16_777_216;
 pub const MAX_STORE: u64 = 16_777_216;
 /// Most cells that one [`Table::pack`] moves.
 pub const MAX_MOVES: u64 = 256;
+/// Most mask levels of an [`arrangement`].
+pub const MAX_ARRANGED_DEPTH: u64 = 2;
+/// Most cells of an [`arrangement`].
+pub const MAX_ARRANGED_CELLS: u64 = 4;

@@ -49,7 +49,7 @@ macro_rules! refusals {
 refusals! {
     Kind = 1, Describer,
         "the kind is out of range: depth 0 to 4, cell size 1 to 64 bytes, index width 4 or 8 bytes (of a working table: \
-         ragged, and 1 to 256 cells to move)";
+         ragged, and 1 to 256 cells to move; of an arrangement: ragged, depth 0 to 2, and 1 to 4 cells)";
     Shape = 2, Describer,
         "the shape is out of range: 1 to 4 sides, each at least 1, at most 65,536 cells in all (of a working table: 1 to \
          65,536 cells)";
@@ -76,6 +76,8 @@ refusals! {
     Full = 16, Setter, "the cells would have more bytes than the store";
     NoMasks = 17, Describer, "the kind has no masks, and only a mask can hide a cell from a guest";
     Hidden = 18, Setter, "the rights plane hides that cell from the guest";
+    Arrangement = 19, Numberer,
+        "there is no arrangement of that number: there are depth + 4 to the power of the cells, numbered from 0";
 }
 
 /// Who causes a refusal.
@@ -87,6 +89,8 @@ pub enum Blame {
     Supplier,
     /// Whoever sets a cell of a working table.
     Setter,
+    /// Whoever numbers an arrangement.
+    Numberer,
     /// Whoever stored the bytes.
     Storer,
     /// Whoever lends the output.
@@ -141,6 +145,7 @@ impl fmt::Display for Blame {
             Blame::Describer => "whoever describes the table",
             Blame::Supplier => "whoever hands over the array, chunk list, working table or rights plane",
             Blame::Setter => "whoever sets the cell",
+            Blame::Numberer => "whoever numbers the arrangement",
             Blame::Storer => "whoever stored the bytes",
             Blame::Lender => "whoever lends the output",
         })

@@ -91,11 +91,20 @@ fn pictures_are_real() {
     let affinity = Array::from_cells(start(2), &[2, 2], &AFFINITY).unwrap();
     let seen = GUESTS.map(|plane| encode(&guest_read(&affinity, &Rights::new(&plane)).unwrap()).unwrap());
     let of_host = stored(start(2), &[1, 2], &[null1, empty]);
+    let arranged =
+        [(2, 8), (1, 13)].map(|(depth, number)| encode(&arrangement(start(depth), &[2], number).unwrap()).unwrap());
     // The library writes no such byte.
     let tail = [&wanted[12][..], b"!"].concat();
     let ends = [empty_at_end, longer, tail];
-    let all: Vec<&Vec<u8>> =
-        wanted.iter().chain(&packed).chain(&loads).chain(&ends).chain(&seen).chain([&of_host]).collect();
+    let all: Vec<&Vec<u8>> = wanted
+        .iter()
+        .chain(&packed)
+        .chain(&loads)
+        .chain(&ends)
+        .chain(&seen)
+        .chain([&of_host])
+        .chain(&arranged)
+        .collect();
     let pictures = pictures(PAGE, "bytes");
     assert_eq!(pictures.len(), all.len());
     for (number, (picture, wanted)) in pictures.iter().zip(all).enumerate() {
@@ -105,7 +114,10 @@ fn pictures_are_real() {
     assert_eq!((interleaved.cell(0), interleaved.cell(1)), (Some(&b"A"[..]), Some(&b""[..])));
 
     let lengths: Vec<usize> = pictures.iter().map(Vec::len).collect();
-    assert_eq!(lengths, [4, 4, 22, 34, 23, 19, 38, 64, 51, 50, 34, 17, 13, 21, 37, 19, 27, 59, 16, 32, 14, 58, 54, 51]);
+    assert_eq!(
+        lengths,
+        [4, 4, 22, 34, 23, 19, 38, 64, 51, 50, 34, 17, 13, 21, 37, 19, 27, 59, 16, 32, 14, 58, 54, 51, 52, 41]
+    );
 }
 
 /// Part 8.
@@ -171,6 +183,50 @@ fn draws_are_real() {
         assert!(PAGE.contains(&row), "{row}");
     }
     assert_eq!(generate(Kind::fixed(0, 1, Order::Little), &[20], 0).unwrap().values, bytes);
+}
+
+/// Part 17: the states of a cell, how many arrangements there are, and all of depth 1 with one cell and with two.
+#[test]
+fn arrangements_are_real() {
+    let page = part("17");
+    let kind = |depth| Kind::ragged(depth, Width::Four, Place::Start);
+    let hex = |bytes: &[u8]| bytes.iter().map(|byte| format!("{byte:02X}")).collect::<Vec<_>>().join(" ");
+    let listed = |numbers: Vec<u64>| numbers.iter().map(u64::to_string).collect::<Vec<_>>().join(", ");
+    let what = |array: &Array, cell: usize| match array.cell(cell) {
+        Some(Cell::Value(b"")) => "value \"\"".to_string(),
+        Some(Cell::Value(value)) => format!("value hex {}", hex(value)),
+        _ => words(array, cell),
+    };
+    let has = |row: String| assert!(page.contains(&format!("\n{row}\n")), "{row}");
+
+    for state in 0..6 {
+        let at_depth = |depth: u64| match arrangement(kind(depth), &[1], state) {
+            Ok(array) if depth == 0 => format!(" `-`, {} |", what(&array, 0)),
+            Ok(array) => format!(" {}, {} |", hex(&array.masks), what(&array, 0)),
+            Err(_) => " |".to_string(),
+        };
+        has(format!("| {state} |{}", (0..=2).map(at_depth).collect::<String>()));
+    }
+    let mut all = 0;
+    for depth in 0..=2 {
+        let counts: Vec<u64> = (1..=4).map(|cells| arrangement_count(depth, cells)).collect();
+        all += counts.iter().sum::<u64>();
+        let row: Vec<String> = counts.iter().map(u64::to_string).collect();
+        has(format!("| {depth} | {} |", row.join(" | ").replace("1296", "1,296")));
+    }
+    assert_eq!(all, 2_674);
+    for cells in [1, 2] {
+        for (number, array) in arrangements(kind(1), &[cells]).unwrap().enumerate() {
+            let said: String = (0..cells as usize).map(|cell| format!(" {} |", what(&array, cell))).collect();
+            let lengths = array.offsets.windows(2).map(|two| two[1] - two[0]).collect();
+            has(format!(
+                "| {number} |{said} {} | {} | {} |",
+                hex(&array.masks),
+                listed(lengths),
+                listed(array.offsets.clone())
+            ));
+        }
+    }
 }
 
 #[test]

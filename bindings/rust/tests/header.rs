@@ -56,6 +56,8 @@ fn version_and_limits() {
         ("DPX_MAX_VALUE_BYTES", MAX_VALUE_BYTES),
         ("DPX_MAX_STORE", MAX_STORE),
         ("DPX_MAX_MOVES", MAX_MOVES),
+        ("DPX_MAX_ARRANGED_DEPTH", MAX_ARRANGED_DEPTH),
+        ("DPX_MAX_ARRANGED_CELLS", MAX_ARRANGED_CELLS),
     ] {
         assert_eq!(macros[name], limit.to_string(), "{name}");
     }

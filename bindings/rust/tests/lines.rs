@@ -282,6 +282,27 @@ fn loads() {
     assert_ne!(load(fixed(2, 3), 9, 5), load(fixed(2, 3), 9, 6));
 }
 
+/// S10.52 to S10.54.
+#[test]
+fn small_arrangements() {
+    let of = |depth, cells, number| {
+        arrangement(ragged(depth, Width::Four, Place::Start), &[cells], number).map(|a| (a.masks, a.values, a.offsets))
+    };
+    assert_eq!(of(2, 1, 0), Ok((vec![0, 0], vec![], vec![0, 0])));
+    assert_eq!(of(2, 1, 1), Ok((vec![1, 0], vec![], vec![0, 0])));
+    assert_eq!(of(2, 1, 2), Ok((vec![1, 1], vec![], vec![0, 0])));
+    assert_eq!(of(2, 1, 5), Ok((vec![1, 1], vec![0; 3], vec![0, 3])));
+    assert_eq!(of(2, 2, 8), Ok((vec![1, 1, 0, 1], vec![], vec![0, 0, 0])));
+    assert_eq!(of(0, 4, 0), Ok((vec![], vec![], vec![0; 5])));
+    assert_eq!(of(1, 4, 624), Ok((vec![1; 4], vec![0; 12], vec![0, 3, 6, 9, 12])));
+    assert_eq!(of(1, 2, 13), Ok((vec![1, 1], vec![0; 3], vec![0, 1, 3])));
+    for (depth, cells, number, refusal) in
+        [(3, 1, 99, Refusal::Kind), (0, 0, 0, Refusal::Kind), (0, 5, 0, Refusal::Kind), (0, 1, 4, Refusal::Arrangement)]
+    {
+        assert_eq!(of(depth, cells, number), Err(refusal), "{depth} {cells} {number}");
+    }
+}
+
 #[test]
 fn words_of_kinds() {
     assert_eq!(ragged(1, Width::Four, Place::Start).to_string(), "depth 1, ragged, width 4, index at start");

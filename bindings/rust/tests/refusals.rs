@@ -45,6 +45,7 @@ fn numbers_messages_and_blame() {
     assert_eq!(of(Blame::Describer), [1, 2, 3, 17]);
     assert_eq!(of(Blame::Supplier), [4, 5, 12]);
     assert_eq!(of(Blame::Setter), [15, 16, 18]);
+    assert_eq!(of(Blame::Numberer), [19]);
     assert_eq!(of(Blame::Storer), [7, 8, 9, 10, 11, 13, 14]);
     assert_eq!(of(Blame::Lender), [6]);
 }

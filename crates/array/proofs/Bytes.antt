@@ -3,7 +3,7 @@
 use mathlib.Core.Path.{◌≡◌, refl, sym, ap, ap₂, ◌∙◌}
 use Prim.Native.Nat.{ℕ, zero, suc, ◌+◌, ◌-◌, ◌*◌, ◌/◌, ◌%◌, ◌^◌, ◌<◌}
 use native.Mathlib.Nat.{mod-add-div, mod-eq_of_lt, mod-lt, add-mul-mod_self_left, add-mul-div_left, div-eq_of_lt, div-lt_iff_lt-mul, pow-zero}
-use native.Mathlib.Nat.{pow-suc, zero-lt-suc, zero-add, div-one, div-div-eq-div-mul, pow-succ', sub-zero, zero-div, mul-zero}
+use native.Mathlib.Nat.{pow-suc, zero-lt-suc, zero-add, div-one, div-div-eq-div-mul, pow-succ', sub-zero, zero-div, mul-zero, mul-suc, mul-le-mul_left, add_comm}
 use native.Mathlib.Omega.{arith}
 use mathlib.Core.List.{List, [], ◌∷◌, ◌++◌}
 use lib.ListN.{length, take, drop, replicate}
@@ -23,12 +23,33 @@ module _ (b : ℕ) where
     number_digits (suc w) n h =
         ap (λ (x : ℕ). n % b + b * x) (number_digits w (n / b) ((div-lt_iff_lt-mul some).1 (rw pow-suc at h))) ∙ mod-add-div n b
 
+    pub number_below : (ds : List ℕ) → All (λ d. d < b) ds → number b ds < b ^ length ds
+    number_below [] p = rw pow-zero (zero-lt-suc 0)
+    number_below (d ∷ ds) p =
+        omega (arith, p.0, mul-le-mul_left {m = suc (number b ds)} {n = b ^ length ds} b (number_below ds p.1), mul-suc b (number b ds), pow-succ' b (length ds))
+
     pub digits_number : (ds : List ℕ) → All (λ d. d < b) ds → digits b (length ds) (number b ds) ≡ ds
     digits_number [] p = refl
     digits_number (d ∷ ds) p =
         ap₂ (λ (x : ℕ) (r : List ℕ). x ∷ r) (add-mul-mod_self_left d b (number b ds) ∙ mod-eq_of_lt p.0)
         (ap (digits b (length ds)) (add-mul-div_left d (number b ds) some ∙ ap (λ (x : ℕ). x + number b ds) (div-eq_of_lt p.0) ∙ zero-add (number b ds))
         ∙ digits_number ds p.1)
+
+    -- one digit more: it is the highest
+    pub digits_more : (w i j : ℕ) → i < b → j < b ^ w → digits b (suc w) (i * b ^ w + j) ≡ digits b w j ++ (i ∷ [])
+    digits_more zero i j hi h =
+        let none : j ≡ 0 = lt-one (rw pow-zero at h) in
+        let one : i * b ^ 0 + j ≡ i = ap₂ (λ (p k : ℕ). i * p + k) (pow-zero b) none ∙ omega arith in
+        ap (λ (m : ℕ). m % b ∷ []) one ∙ ap (λ (m : ℕ). m ∷ []) (mod-eq_of_lt hi)
+    digits_more (suc w) i j hi h =
+        let apart : i * b ^ suc w + j ≡ j + b * (i * b ^ w) = ap (λ (p : ℕ). i * p + j) (pow-succ' b w) ∙ regroup i (b ^ w) j in
+        let high : (j + b * (i * b ^ w)) / b ≡ i * b ^ w + j / b = add-mul-div_left j (i * b ^ w) some ∙ add_comm (j / b) (i * b ^ w) in
+        ap (λ (m : ℕ). digits b (suc (suc w)) m) apart
+        ∙ ap₂ (λ (x : ℕ) (r : List ℕ). x ∷ r) (add-mul-mod_self_left j b (i * b ^ w))
+        (ap (digits b (suc w)) high ∙ digits_more w i (j / b) hi ((div-lt_iff_lt-mul some).1 (rw pow-suc at h)))
+      where
+        regroup : (i p j : ℕ) → i * (b * p) + j ≡ j + b * (i * p)
+        regroup i p j = omega arith
 
     -- a number of w digits without its i lowest
     pub div_below : (w n i : ℕ) → n < b ^ w → n / b ^ i < b ^ (w - i)

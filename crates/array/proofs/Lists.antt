@@ -4,7 +4,7 @@ use mathlib.Core.Path.{◌≡◌, refl, sym, ap, ap₂, ◌∙◌}
 use Prim.Native.Nat.{ℕ, zero, suc, ◌+◌, ◌*◌, ◌≤◌, ◌<◌}
 use native.Mathlib.Nat.{zero-mul, suc-mul, add_comm, add-zero, zero-add}
 use native.Mathlib.Omega.{arith}
-use mathlib.Core.List.{List, [], ◌∷◌, ◌++◌, map, append_assoc}
+use mathlib.Core.List.{List, [], ◌∷◌, ◌++◌, map, reverse, reverse_aux, append_assoc}
 use lib.ListN.{length, take, drop, get_or, length-append, length-drop, take-append-drop}
 use lib.Seq.{take_at, drop_at, take-take, length-take-le}
 use Rattle.array.specs.Lists.{from, joined, pieces, All}
@@ -64,6 +64,31 @@ module _ {A : Type 0} where
   All-of P f [] = tt
   All-of P f (x ∷ xs) = (f x, All-of P f xs)
 
+  -- what is known of each element by itself is known at once
+  pub all_both : (P Q R : A → Type 0) → ((a : A) → P a → Q a → R a) → (xs : List A) → All P xs → All Q xs → All R xs
+  all_both P Q R f [] p q = tt
+  all_both P Q R f (x ∷ xs) p q = (f x p.0 q.0, all_both P Q R f xs p.1 q.1)
+
+  all_onto : (P : A → Type 0) (xs ys : List A) → All P xs → All P ys → All P (reverse_aux xs ys)
+  all_onto P [] ys p q = q
+  all_onto P (x ∷ xs) ys p q = all_onto P xs (x ∷ ys) p.1 (p.0, q)
+
+  pub All-reverse : (P : A → Type 0) (xs : List A) → All P xs → All P (reverse xs)
+  All-reverse P xs p = all_onto P xs [] p tt
+
+  front_all : (P : A → Type 0) (xs ys : List A) → All P (xs ++ ys) → All P xs × All P ys
+  front_all P [] ys p = (tt, p)
+  front_all P (x ∷ xs) ys p = let r = front_all P xs ys p.1 in ((p.0, r.0), r.1)
+
+  -- of lists laid end to end
+  pub All-joined : (P : A → Type 0) (vs : List (List A)) → All (All P) vs → All P (joined vs)
+  All-joined P [] p = tt
+  All-joined P (v ∷ vs) p = All-append P v (joined vs) p.0 (All-joined P vs p.1)
+
+  pub joined_all : (P : A → Type 0) (vs : List (List A)) → All P (joined vs) → All (All P) vs
+  joined_all P [] p = tt
+  joined_all P (v ∷ vs) p = let r = front_all P v (joined vs) p in (r.0, joined_all P vs r.1)
+
   pub All-take : (P : A → Type 0) (n : ℕ) (xs : List A) → All P xs → All P (take n xs)
   All-take P zero xs p = tt
   All-take P (suc n) [] p = tt
@@ -109,6 +134,10 @@ module _ {A : Type 0} (k : ℕ) where
   pieces-joined (v ∷ vs) p =
       ap₂ (λ (a : List A) (r : List A). a ∷ pieces k (length vs) r) (take_at v (joined vs) k p.0) (drop_at v (joined vs) k p.0)
       ∙ ap (λ (r : List (List A)). v ∷ r) (pieces-joined vs p.1)
+
+pub length-joined-le : {A : Type 0} (k : ℕ) (vs : List (List A)) → All (λ v. length v ≤ k) vs → length (joined vs) ≤ length vs * k
+length-joined-le k [] p = omega arith
+length-joined-le k (v ∷ vs) p = omega (arith, length-append v (joined vs), p.0, length-joined-le k vs p.1, suc-mul (length vs) k)
 
 pub length-pieces : {A : Type 0} (k n : ℕ) (s : List A) → length (pieces k n s) ≡ n
 length-pieces k zero s = refl

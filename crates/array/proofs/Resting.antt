@@ -25,9 +25,13 @@ pub laid_valid : {k : Kind} {shape : List ℕ} {cs : List (Cell k.depth)} → Ki
 laid_valid {k} {shape} {cs} ok sh g =
     record { kind = ok; shaped = sh; content = good_layout k (volume shape) cs g; small = g.small }
 
-map_same : {A : Type 0} (f : A → A) (xs : List A) → All (λ x. f x ≡ x) xs → map f xs ≡ xs
+pub map_same : {A : Type 0} (f : A → A) (xs : List A) → All (λ x. f x ≡ x) xs → map f xs ≡ xs
 map_same f [] p = refl
 map_same {A} f (x ∷ xs) p = ap₂ (λ (y : A) (r : List A). y ∷ r) p.0 (map_same f xs p.1)
+
+pub same_map : {A : Type 0} (f : A → A) (xs : List A) → map f xs ≡ xs → All (λ x. f x ≡ x) xs
+same_map f [] e = tt
+same_map f (x ∷ xs) e = (cc, same_map f xs cc)
 
 -- a cell that is in rest form
 abbrev pub Rests : (k : Kind) → Cell k.depth → Type 0

@@ -72,6 +72,7 @@ number_of Refusal.Cell = 15
 number_of Refusal.Full = 16
 number_of Refusal.NoMasks = 17
 number_of Refusal.Hidden = 18
+number_of Refusal.Arrangement = 19
 
 -- what an answer of the code says: what is given, a length or the lengths, or the refusal by its number
 abbrev pub told : {A : Type 0} → Result A Refusal → Answer A

@@ -57,6 +57,11 @@ pub enum Refusal {
     Full,
     // A cell that a rights plane hides from the guest that sets it.
     Hidden,
+
+    // Whoever asks for an arrangement by its number.
+
+    // A number at or past the count of arrangements.
+    Arrangement,
 }
 
 impl Refusal {
@@ -83,6 +88,7 @@ impl Refusal {
             Refusal::Full => 16,
             Refusal::NoMasks => 17,
             Refusal::Hidden => 18,
+            Refusal::Arrangement => 19,
         }
     }
 }
@@ -108,6 +114,7 @@ impl fmt::Display for Refusal {
             Refusal::Cell => "the table has no such cell",
             Refusal::Full => "the store is full",
             Refusal::Hidden => "the cell is hidden",
+            Refusal::Arrangement => "there is no arrangement of that number",
         })
     }
 }

@@ -24,6 +24,8 @@ use Rattle.codec.specs.Refusals.{mask_rules, content_rules, frame_rules, cell_ru
 use Rattle.codec.proofs.Refusals as codec
 use Rattle.load.specs.Calls.{generate_answer, generated}
 use Rattle.load.proofs.Refusals as load
+use Rattle.arrange.specs.Calls.{arrangement_answer, arranged}
+use Rattle.arrange.proofs.Refusals as arrange
 use Rattle.table.specs.Table.{Table}
 use Rattle.table.specs.Calls.{table_after, in_place, table_lengths, make_answer, made, read_answer, read_out, set_answer, cell_set, previewed, answered, pack_answer, cells_packed}
 use Rattle.table.specs.Lying.{moved_cells}
@@ -33,7 +35,10 @@ use Rattle.rights.proofs.Refusals as rights
 use Rattle.chunks.specs.Chunks.{later_chunks}
 use Rattle.chunks.specs.Calls.{extract_answer, extracted, merge_answer, merged, partial_answer, partially_decoded}
 use Rattle.chunks.specs.Refusals.{chunk_rules}
-use Rattle.chunks.specs.Demand1.{encode_numbers, decode_numbers, interleaved_numbers, encode_interleaved_numbers, extract_numbers, merge_numbers, partial_numbers, reverse_numbers, subset_numbers, generate_numbers, make_table_numbers, read_table_numbers, set_cell_numbers, pack_cells_numbers, guest_read_numbers, guest_edit_numbers, listed, Answered, Demand1}
+use Rattle.chunks.specs.Demand1.{encode_numbers, decode_numbers, interleaved_numbers, encode_interleaved_numbers, extract_numbers, merge_numbers, partial_numbers}
+use Rattle.chunks.specs.Demand1.{reverse_numbers, subset_numbers, generate_numbers, arrangement_numbers, make_table_numbers, read_table_numbers}
+use Rattle.chunks.specs.Demand1.{set_cell_numbers, pack_cells_numbers, guest_read_numbers, guest_edit_numbers}
+use Rattle.chunks.specs.Demand1.{listed, Answered, Demand1}
 use Rattle.chunks.proofs.Refusals as chunks
 
 -- ---- the numbers of rules stand in the list
@@ -118,7 +123,8 @@ module _ {rs : List Rule} (ns : List ℕ) where
 -- ---- the demand
 
 pub demand1 : Demand1
-unfolding encoded decoded interleaved_decoded interleaved_encoded extracted merged partially_decoded endianness_reversed subset_cells generated made read_out cell_set cells_packed guest_read guest_edit
+unfolding encoded decoded interleaved_decoded interleaved_encoded extracted merged partially_decoded endianness_reversed subset_cells generated
+    arranged made read_out cell_set cells_packed guest_read guest_edit
 demand1 = record {
   encode = λ k shape c out. list_answered encode_numbers (encode_answer k shape c (length out)) out ((codec.refusals).encode k shape c out) refl;
   decode = λ k shape s out. content_answered decode_numbers (decode_answer k shape s (lengths_of out)) out ((codec.refusals).decode k shape s out)
@@ -133,6 +139,7 @@ demand1 = record {
   reverse_endianness = λ k s. reverse-answered reverse_numbers (reverse_answer k s) k s ((array.refusals).reverse_endianness k s) refl;
   subset_cells_call = λ shape ns out. list_answered subset_numbers (cells_answer shape ns (length out)) out ((array.refusals).subset_cells_call shape ns out) refl;
   generate = λ k shape s out. content_answered generate_numbers (generate_answer k shape s (lengths_of out)) out ((load.refusals).generate k shape s out) refl;
+  small_arrangement = λ d n k out. content_answered arrangement_numbers (arrangement_answer d n k (lengths_of out)) out ((arrange.refusals).arrange d n k out) refl;
   make_table = λ k n c out. table-answered make_table_numbers (make_answer k n c out) out ((table.refusals).make k n c out) refl;
   read_table = λ k n t out. content_answered read_table_numbers (read_answer k n t (lengths_of out)) out ((table.refusals).read k n t out) refl;
   set_cell = λ k n t c ms v. place_answered set_cell_numbers (λ u. tt) (set_answer k n t c ms v) t ((table.refusals).set k n t c ms v) refl;

@@ -9,6 +9,7 @@ use Rattle.array.specs.Content.{Content, RaggedContent}
 use Rattle.array.specs.Calls.{endianness_reversed, subset_cells}
 use Rattle.codec.specs.Calls.{encoded, decoded, interleaved_decoded, interleaved_encoded}
 use Rattle.load.specs.Calls.{generated}
+use Rattle.arrange.specs.Calls.{arranged}
 use Rattle.table.specs.Table.{Table}
 use Rattle.table.specs.Calls.{made, read_out, cell_set, previewed, answered, cells_packed}
 use Rattle.rights.specs.Calls.{guest_read, guest_edit}
@@ -45,6 +46,9 @@ subset_numbers = 2 ∷ 3 ∷ 6 ∷ []
 
 abbrev pub generate_numbers : List ℕ
 generate_numbers = 1 ∷ 2 ∷ 6 ∷ []
+
+abbrev pub arrangement_numbers : List ℕ
+arrangement_numbers = 1 ∷ 19 ∷ 6 ∷ []
 
 abbrev pub make_table_numbers : List ℕ
 make_table_numbers = 1 ∷ 2 ∷ 4 ∷ 5 ∷ 6 ∷ []
@@ -90,6 +94,7 @@ pub record Demand1 : Type 0 where
   pub reverse_endianness : (k : ℕ) (s : List ℕ) → Answered reverse_numbers s (endianness_reversed k s)
   pub subset_cells_call : (shape ns out : List ℕ) → Answered subset_numbers out (subset_cells shape ns out)
   pub generate : (k : Kind) (shape : List ℕ) (s : ℕ) (out : Content) → Answered generate_numbers out (generated k shape s out)
+  pub small_arrangement : (d n k : ℕ) (out : Content) → Answered arrangement_numbers out (arranged d n k out)
   pub make_table : (k : Kind) (n : ℕ) (c : Content) (out : Table) → Answered make_table_numbers out (made k n c out)
   pub read_table : (k : Kind) (n : ℕ) (t : Table) (out : Content) → Answered read_table_numbers out (read_out k n t out)
   pub set_cell : (k : Kind) (n : ℕ) (t : Table) (c : ℕ) (ms : List ℕ) (v : Value) → Answered set_cell_numbers t (cell_set k n t c ms v)

@@ -11,6 +11,7 @@ ghost use Rattle.array.specs.Calls.{endianness_reversed};
 ghost use Rattle.array.specs.Calls.{subset_cells};
 ghost use Rattle.codec.specs.Calls.{encoded, decoded, interleaved_decoded, interleaved_encoded};
 ghost use Rattle.load.specs.Calls.{generated};
+ghost use Rattle.arrange.specs.Calls.{arranged};
 ghost use Rattle.chunks.specs.Calls.{extracted, merged, partially_decoded};
 ghost use Rattle.table.specs.Calls.{made, read_out, cell_set, previewed, answered, cells_packed};
 ghost use Rattle.table.specs.Meaning.{table_by};
@@ -247,6 +248,23 @@ pub extern "C" fn dpx_generate(
             put_three_lengths(answer, lengths)
         }
     }
+}
+
+#[unsafe(no_mangle)]
+pub extern "C" fn dpx_arrangement(
+    depth: u64,
+    cells: u64,
+    number: u64,
+    masks: &mut [u8],
+    values: &mut [u8],
+    offsets: &mut [u64],
+    lengths: &mut [u64; 3],
+) -> u32
+    ensures { handed result lengths.new (content_array masks.new values.new offsets.new)
+        ≡ export_three (arranged depth cells number (content_array masks.old values.old offsets.old)) lengths.old }
+{
+    let answer = arrangement::arrangement(depth, cells, number, masks, values, offsets);
+    put_three_lengths(answer, lengths)
 }
 
 // Ten parameters, as in C: each slice is a pointer and a count, and each lent buffer is its own.

@@ -2,15 +2,15 @@
 -- Assumes nothing.
 use mathlib.Core.Path.{◌≡◌, refl, ap, ap₂, ◌∙◌}
 use Prim.Native.Nat.{ℕ, zero, suc, ◌*◌, ◌%◌, ◌<◌, ◌≤◌}
-use native.Mathlib.Nat.{mod-lt, zero-lt-suc, suc-mul, le_trans, le_of_eq}
+use native.Mathlib.Nat.{mod-lt, zero-lt-suc, le_trans, le_of_eq}
 use native.Mathlib.Omega.{arith}
-use mathlib.Core.List.{List, [], ◌∷◌}
-use lib.ListN.{length, replicate, length-replicate, length-append, length-map}
+use mathlib.Core.List.{List}
+use lib.ListN.{length, replicate, length-replicate, length-map}
 use Rattle.array.specs.Lists.{All, joined}
 use Rattle.array.specs.Kind.{Form, fixed, ragged, FormOk, null_of}
 use Rattle.array.specs.Cells.{Value, Cell, leaf, blank, rest}
 use Rattle.array.specs.Content.{leaves}
-use Rattle.array.proofs.Lists.{All-map, All-image}
+use Rattle.array.proofs.Lists.{All-map, All-image, length-joined-le}
 use Rattle.array.proofs.Sizes.{OfSize, null_sized}
 use Rattle.array.proofs.RestLaws.{leaf_blank, StrictCell, strict_blank}
 use Rattle.load.specs.Generator.{Drew, draw, draw_bytes}
@@ -87,16 +87,12 @@ unfolding draw_cells
 drawn_count f d zero s = refl
 drawn_count f d (suc n) s = ap suc (drawn_count f d n _)
 
-pub short_total : (m : ℕ) (vs : List Value) → All (λ v. length v ≤ m) vs → length (joined vs) ≤ length vs * m
-short_total m [] p = omega arith
-short_total m (v ∷ vs) p = omega (arith, length-append v (joined vs), p.0, short_total m vs p.1, suc-mul (length vs) m)
-
 -- n cells have at most n times the bytes of the longest value
 pub drawn_total : (f : Form) (d n s : ℕ) → length (joined (leaves d (draw_cells f d n s).made)) ≤ n * longest f
 drawn_total f d n s =
     let cs : List (Cell d) = (draw_cells f d n s).made in
     let each : All (λ c. length (leaf d c) ≤ longest f) cs = All-map (DrawnCell f d) (λ c. length (leaf d c) ≤ longest f) (λ c r. r.value.short) cs (drawn_cells f d n s) in
-    le_trans (short_total (longest f) (leaves d cs) (All-image (λ v. length v ≤ longest f) (leaf d) cs each))
+    le_trans (length-joined-le (longest f) (leaves d cs) (All-image (λ v. length v ≤ longest f) (leaf d) cs each))
     (le_of_eq (ap (λ (m : ℕ). m * longest f) (length-map cs (leaf d) ∙ drawn_count f d n s)))
 
 -- ---- forms that are alike draw alike

@@ -4,10 +4,10 @@ use mathlib.Core.Path.{◌≡◌, refl, sym, ap, ◌∙◌}
 use Prim.Native.Nat.{ℕ, ◌<◌}
 use native.Mathlib.Nat.{mul-le-mul}
 use native.Mathlib.Omega.{arith}
-use mathlib.Core.List.{List, [], ◌∷◌}
+use mathlib.Core.List.{List}
 use Rattle.array.specs.Answer.{Answer, gives, unless}
 use Rattle.array.specs.Limits.{most_bytes, most_cells}
-use Rattle.array.specs.Lists.{All, joined}
+use Rattle.array.specs.Lists.{All}
 use Rattle.array.specs.Kind.{Kind, KindOk, Form, fixed, ragged}
 use Rattle.array.specs.Shape.{volume, ShapeOk, shape_test}
 use Rattle.array.specs.Cells.{Value, Cell, leaf}
@@ -15,7 +15,7 @@ use Rattle.array.specs.Content.{Content, leaves, layout}
 use Rattle.array.specs.declared.answer.Lengths.{Lengths}
 use Rattle.array.specs.Buffers.{lengths_of, enough_test, content_outcome}
 use Rattle.array.proofs.Answers.{pass}
-use Rattle.array.proofs.Lists.{All-map, All-image, All-append}
+use Rattle.array.proofs.Lists.{All-map, All-image, All-joined}
 use Rattle.array.proofs.Rules.{kind_test_lem, shape_test_lem, enough_test_lem}
 use Rattle.array.proofs.Sizes.{OfSize}
 use Rattle.array.proofs.LayoutLaws.{Good}
@@ -26,10 +26,6 @@ use Rattle.load.specs.Load.{draw_value, draw_cells, load_of}
 use Rattle.load.specs.Calls.{generate_answer, generated}
 use Rattle.load.specs.Law.{SameSize, LoadLaw, Loads}
 use Rattle.load.proofs.Drawn.{longest_small, DrawnCell, drawn_cells, drawn_count, drawn_total, same_cells}
-
-joined_bytes : (vs : List Value) → All (λ v. All (λ b. b < 256) v) vs → All (λ b. b < 256) (joined vs)
-joined_bytes [] p = tt
-joined_bytes (v ∷ vs) p = All-append (λ b. b < 256) v (joined vs) p.0 (joined_bytes vs p.1)
 
 -- ---- forms that are alike
 
@@ -86,7 +82,7 @@ module _ (k : Kind) (ok : KindOk k) (shape : List ℕ) (sh : ShapeOk shape) (s :
   load_law = record {
     valid = laid_valid ok sh good;
     rests = laid_rests good (each (Rests k) (λ c r. r.rests));
-    bytes = joined_bytes (leaves k.depth cells) (of_values (λ v. All (λ b. b < 256) v) (λ c r. r.value.bytes));
+    bytes = All-joined (λ b. b < 256) (leaves k.depth cells) (of_values (λ v. All (λ b. b < 256) v) (λ c r. r.value.bytes));
     given = λ out e. ap (λ (a : Answer Content). content_outcome a out)
         (answered k ok (lengths_of out) ∙ pass 2 (shape_test_lem shape sh) (pass 6 (enough_test_lem (load_of k shape s) (lengths_of out) e) refl));
     determined = λ j jo e a out. ap (λ (x : Answer Content). content_outcome x out)

@@ -100,6 +100,14 @@ pub fn run(call: Call, q: Request<'_>, out: &mut LentArray<'_>) -> Result<Length
             out.values,
         )),
         Call::SubsetCells => offsets_told(subset::subset_cells(q.shape, q.subset, out.offsets)),
+        Call::Arrangement => arrangement::arrangement(
+            first,
+            number_at(q.head, 1),
+            number_at(q.head, 2),
+            out.masks,
+            out.values,
+            out.offsets,
+        ),
         _ => run_kind(call, head_kind(q.head)?, q, out),
     }
 }

@@ -6,6 +6,7 @@
 //     i CELLS BYTES ROOMS                               decode_interleaved
 //     o KIND SHAPE MASKS VALUES OFFSETS ROOM            encode_interleaved
 //     g KIND SHAPE START ROOMS                          generate
+//     a DEPTH,CELLS,NUMBER ROOMS                        arrangement
 //     x KIND SHAPE SUBSET MASKS VALUES OFFSETS ROOMS    extract
 //     m KIND SHAPE SUBSETS MASKS VALUES OFFSETS ROOMS   merge
 //     p WIDTH,PLACE SHAPE SUBSET BYTES ROOMS            partial_decode

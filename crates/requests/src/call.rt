@@ -14,6 +14,7 @@ pub enum Call {
     SubsetCells,
     MakeTable,
     GuestRead,
+    Arrangement,
 }
 
 // The numbers at the head of a line: a kind, in four numbers, or five where its mask form is named; or so many others, or no list at all.
@@ -134,6 +135,7 @@ impl TryFrom<u8> for Call {
             b's' => Ok(Call::SubsetCells),
             b'M' => Ok(Call::MakeTable),
             b'G' => Ok(Call::GuestRead),
+            b'a' => Ok(Call::Arrangement),
             _ => Err(()),
         }
     }
@@ -151,6 +153,7 @@ impl Call {
             Call::PartialDecode => of_numbers(Head::Numbers(2), true, true, true),
             Call::ReverseEndianness => of_numbers(Head::Numbers(1), false, true, false),
             Call::SubsetCells => of_numbers(Head::Nothing, true, false, true),
+            Call::Arrangement => of_numbers(Head::Numbers(3), false, false, true),
         }
     }
 }
