@@ -92,6 +92,14 @@ for target in compare bench tool install demo; do
     build --dry-run "$target" LISTED=here || wrong "make $target has no rule for what it needs"
     grep -qx 'package/archive.sh' "$folder/said" || wrong "make $target does not build the archive"
 done
+# A PREFIX that will not do is refused at once, with nothing built.
+rm -f ../asked
+for target in install uninstall; do
+    if build "$target" PREFIX=here; then wrong "make $target takes a PREFIX that is no absolute path"; fi
+    grep -qF "PREFIX is an absolute path, not 'here'" "$folder/said" || wrong "make $target does not say what is wrong with PREFIX"
+    [ ! -e ../asked ] && [ ! -e build ] || wrong "make $target built before it refused"
+done
+
 # The gate: status of rt, of the tests from outside, what rt counts of the edits; the status that is wanted, and what is printed.
 gate() {
     printf '%s\n' "$1" > ../status
