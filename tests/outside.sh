@@ -12,12 +12,6 @@ say() { printf '\n== %s\n' "$*"; }
 if [ "${1:-}" != --built ]; then
     say 'archive and header'
     make --no-print-directory --always-make lib
-    # The archive stands alone: it takes nothing but these four of the C library.
-    undefined=$(nm --undefined-only --format=posix build/libdurpaxeta.a | awk 'NF > 1 {print $1}' | sort -u)
-    if grep -vxE 'memcpy|memmove|memset|memcmp|_GLOBAL_OFFSET_TABLE_' <<< "${undefined:-memcpy}"; then
-        echo 'outside: the archive needs the symbols above' >&2
-        exit 1
-    fi
 else
     touch build/libdurpaxeta.a
 fi
@@ -28,27 +22,8 @@ tests/build.sh
 say 'documents'
 tests/documents.sh
 
-say 'exported names'
-diff <(nm --extern-only --defined-only --format=posix build/libdurpaxeta.a | awk 'NF > 1 {print $1}' | sort) - <<'END'
-dpx_decode
-dpx_decode_interleaved
-dpx_encode
-dpx_encode_interleaved
-dpx_extract
-dpx_generate
-dpx_guest_edit
-dpx_guest_read
-dpx_merge
-dpx_partial_decode
-dpx_reverse_endianness
-dpx_subset_cells
-dpx_table_make
-dpx_table_pack
-dpx_table_preview
-dpx_table_read
-dpx_table_set
-END
-echo 'the seventeen calls, and nothing else'
+say 'symbols'
+tests/symbols.sh
 
 # The tests by cargo need nothing of those in C, and run beside them; what they say comes behind.
 cargo_tests() {
