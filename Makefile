@@ -38,18 +38,28 @@ demo: lib tool
 PREFIX ?= /usr/local
 DESTDIR ?=
 FILES := include/durpaxeta.h lib/libdurpaxeta.a lib/pkgconfig/durpaxeta.pc share/man/man1/durpaxeta.1 share/man/man3/durpaxeta.3
+# A page for each call, which leads to that of them all: man dpx_encode.
+CALL_PAGES = $(patsubst %,share/man/man3/%.3,$(shell package/calls.sh))
+
+# Seen before anything is built.
+ifneq ($(filter install uninstall,$(MAKECMDGOALS)),)
+ifeq ($(filter /%,$(firstword $(PREFIX))),)
+$(error PREFIX is an absolute path, not '$(PREFIX)')
+endif
+endif
 
 install: lib tool
-	@case "$(PREFIX)" in /*) ;; *) echo "make install: PREFIX is an absolute path, not '$(PREFIX)'" >&2; exit 1 ;; esac
 	@sed -e 's|@PREFIX@|$(PREFIX)|' -e "s|@VERSION@|$$(cat VERSION)|" package/durpaxeta.pc.in > build/durpaxeta.pc
 	@package/man.sh 1 > build/durpaxeta.1
 	@package/man.sh 3 > build/durpaxeta.3
+	@echo '.so man3/durpaxeta.3' > build/call.3
 	@install -D -m 755 build/durpaxeta "$(DESTDIR)$(PREFIX)/bin/durpaxeta"
 	@for file in $(FILES); do install -D -m 644 "build/$${file##*/}" "$(DESTDIR)$(PREFIX)/$$file" || exit 1; done
-	@echo "installed under $(DESTDIR)$(PREFIX): bin/durpaxeta $(FILES)"
+	@for page in $(CALL_PAGES); do install -D -m 644 build/call.3 "$(DESTDIR)$(PREFIX)/$$page" || exit 1; done
+	@echo "installed under $(DESTDIR)$(PREFIX): bin/durpaxeta $(FILES), and a man page for each call"
 
 uninstall:
-	@rm -f $(foreach file,bin/durpaxeta $(FILES),"$(DESTDIR)$(PREFIX)/$(file)")
-	@echo "removed from $(DESTDIR)$(PREFIX): bin/durpaxeta $(FILES)"
+	@rm -f $(foreach file,bin/durpaxeta $(FILES) $(CALL_PAGES),"$(DESTDIR)$(PREFIX)/$(file)")
+	@echo "removed from $(DESTDIR)$(PREFIX): bin/durpaxeta $(FILES), and the man page of each call"
 
 include oracle/oracle.mk

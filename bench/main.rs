@@ -287,7 +287,7 @@ impl Bench {
 
     /// Ours and another, by turns. Where a buffer lies, or what else the machine does, can cost more than the call: while ours takes more than
     /// `limit` of the other's time, both are tried again a little later, ours with outputs elsewhere, up to eleven times, and the best of each counts.
-    /// Not where it takes more than `hopeless` of it: no noise explains that.
+    /// Not where it takes more than `hopeless` of it: no noise explains that; nor where one round is asked for, to see that all runs.
     fn turns(&self, call: Call, other: Timed, limit: f64, hopeless: f64) -> [f64; 2] {
         self.turns_of(|| self.ours(call), other, limit, hopeless)
     }
@@ -297,7 +297,7 @@ impl Bench {
     fn tries(&self, mut once: impl FnMut() -> Vec<f64>, limit: f64, hopeless: f64) -> [f64; 2] {
         let mut elsewhere = vec![];
         let mut times = [f64::MAX; 2];
-        let again = |[ours, other]: [f64; 2]| ours > limit * other && ours <= hopeless * other;
+        let again = |[ours, other]: [f64; 2]| self.rounds > 1 && ours > limit * other && ours <= hopeless * other;
         while elsewhere.is_empty() || again(times) && elsewhere.len() < 12 {
             if !elsewhere.is_empty() {
                 std::thread::sleep(Duration::from_millis(500));

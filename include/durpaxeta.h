@@ -1,7 +1,7 @@
 /*
  * Durpaxeta: tables of optional and variable-length cells in one checked byte layout.
  *
- * Link with libdurpaxeta.a (x86-64). Nothing else is needed but memmove and memset, as of any C library.
+ * Link with libdurpaxeta.a (x86-64). Nothing else is needed but memcpy, memmove, memset and memcmp, as of any C library.
  * The archive has the eighteen calls. All else is static inline here: kinds, answers in words, room for outputs, cells.
  *
  * A TABLE is a kind, a shape and its content.

@@ -1,11 +1,15 @@
 # The comparison with the Rust. See oracle/README.md.
 #   LISTED    folder of the listed files of zarrs 0.23.14 (src--src--...rs.txt); their text is read here and not committed
 #   ARCHIVE   the archive under test
-#   SEED, REQUESTS   of `make compare`
+#   SEED, REQUESTS   of `make compare` and `make teeth`
+#   ONLY      of `make teeth` and `make fuzz-teeth` the mistakes with this in their name; of `make bench` some rows, below
+#   MADE      folder for what `make record` and `make vectors` make anew
 LISTED ?= ../shared/docs/src
 ARCHIVE ?= build/libdurpaxeta.a
 SEED ?= 1
 REQUESTS ?= 2250000
+ONLY ?=
+MADE ?= oracle/data
 
 O := build/oracle
 RUSTC := rustc --edition 2024
@@ -48,7 +52,7 @@ $(O)/teeth_run: oracle/teeth/main.rs
 
 .PHONY: teeth
 teeth: $(O)/driver $(O)/teeth_run
-	@$(O)/teeth_run $(O) $(SEED) $(REQUESTS)
+	@$(O)/teeth_run $(O) $(SEED) $(REQUESTS) "$(ONLY)"
 
 # A fuzzer over the archive's own code: what decode accepts, encode writes again as the same bytes.
 #   SECONDS   how long it runs
@@ -63,7 +67,7 @@ fuzz: build/libdurpaxeta.a
 # Does it see mistakes that are put in on purpose?
 .PHONY: fuzz-teeth
 fuzz-teeth:
-	@oracle/fuzz/teeth.sh 120
+	@oracle/fuzz/teeth.sh 120 "$(ONLY)"
 
 # The rows of docs/DIFFERENCES.md, put to the judge and to each build of the Rust.
 .PHONY: differences
@@ -74,26 +78,25 @@ differences: $(O)/driver
 .PHONY: record
 record: $(O)/driver
 	@$(O)/driver record 1 > $(O)/answers.txt
-	@mv $(O)/answers.txt oracle/data/answers.txt
-	@wc -lc oracle/data/answers.txt
+	@mv $(O)/answers.txt $(MADE)/answers.txt
+	@wc -lc $(MADE)/answers.txt
 
 # The published vectors, made anew with the Debian package python3-numcodecs; and the archive's interleaved form, read by it.
 .PHONY: vectors
 vectors: $(OBJECT)
 	@mkdir -p $(O)
 	@/usr/bin/python3 oracle/data/vectors.py > $(O)/vectors.txt
-	@mv $(O)/vectors.txt oracle/data/vectors.txt
-	@wc -lc oracle/data/vectors.txt
+	@mv $(O)/vectors.txt $(MADE)/vectors.txt
+	@wc -lc $(MADE)/vectors.txt
 	@/usr/bin/python3 oracle/data/readers.py $(OBJECT)
 
 $(O)/bench: $(wildcard bench/*.rs) oracle/driver/archive.rs oracle/driver/rng.rs $(O)/.rust
 	@$(RUSTC) -C opt-level=3 -L $(O) --extern standin_release=$(O)/libstandin_release.rlib -o $@ bench/main.rs
 
-# ROUNDS  of which the best counts. Every row with its times goes to build/oracle/bench.txt.
+# ROUNDS  of which the best counts; where it is 1 no row is tried again. Every row with its times goes to build/oracle/bench.txt.
 # ONLY    interleaved: the rows of the interleaved form alone; generate: those of loads; table: those of working tables; guest: those of guests;
 #         arrangement: those of arrangements.
 ROUNDS ?= 25
-ONLY ?=
 .PHONY: bench
 bench: $(O)/bench $(OBJECT)
 	@$(O)/bench $(OBJECT) $(ROUNDS) $(O)/bench.txt $(ONLY)

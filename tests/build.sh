@@ -2,10 +2,11 @@
 # The Makefile, with a stand-in for rt: make lib says how long it takes and prints one line a crate; where a proof fails it shows the
 # error and keeps the archive that was there; compare, bench, tool and install build the archive that they need. And the gate: it fails
 # where rt fails, where a must-fail edit is bad and where the tests from outside fail, and its last line is rt's, with a failure that rt did
-# not see.
+# not see; where packages are missing it does not begin. And the tests from outside, that run side by side: none fails unseen.
 set -euo pipefail
 cd "$(dirname "$0")/.."
 unset MAKEFLAGS # of a make that runs this
+from=$PWD
 folder=$(mktemp -d)
 trap 'rm -rf "$folder"' EXIT
 wrong() {
@@ -58,7 +59,8 @@ cat > "$folder/tree/tests/outside.sh" <<'END'
 echo outside
 exit "$(cat ../outside)"
 END
-chmod +x "$folder/tree/tests/outside.sh"
+printf '#!/bin/sh\n[ ! -e ../missing ] || { echo clang-14 is missing >&2; exit 1; }\n' > "$folder/tree/tests/packages.sh"
+chmod +x "$folder"/tree/tests/*.sh
 cd "$folder/tree"
 export PATH="$folder/bin:$PATH"
 build() { make --no-print-directory "$@" > "$folder/said" 2>&1; }
@@ -92,6 +94,14 @@ for target in compare bench tool install demo; do
     build --dry-run "$target" LISTED=here || wrong "make $target has no rule for what it needs"
     grep -qx 'package/archive.sh' "$folder/said" || wrong "make $target does not build the archive"
 done
+# A PREFIX that will not do is refused at once, with nothing built.
+rm -f ../asked
+for target in install uninstall; do
+    if build "$target" PREFIX=here; then wrong "make $target takes a PREFIX that is no absolute path"; fi
+    grep -qF "PREFIX is an absolute path, not 'here'" "$folder/said" || wrong "make $target does not say what is wrong with PREFIX"
+    [ ! -e ../asked ] && [ ! -e build ] || wrong "make $target built before it refused"
+done
+
 # The gate: status of rt, of the tests from outside, what rt counts of the edits; the status that is wanted, and what is printed.
 gate() {
     printf '%s\n' "$1" > ../status
@@ -112,4 +122,37 @@ gate 0 0 "rt: ok; handles allowed: none; must-fail edits: 68 refused, 2 of them 
 gate 0 0 "rt: ok; handles allowed: none; every proof and must-fail edit was done in this run" 1 ''
 gate 1 0 'rt: FAILED: array' 1 ''
 gate 2 0 'rt: the disk is full' 1 ''
-echo 'make lib, what needs it, and make test: as it should be'
+touch ../missing
+if make --no-print-directory test > "$folder/said" 2> /dev/null || [ -s "$folder/said" ]; then wrong 'make test passes over packages that are missing'; fi
+
+# The tests around the archive, each replaced by one that says its name, and fails where that is the one that is to fail.
+each=(tests/build.sh tests/documents.sh tests/symbols.sh tests/c/run.sh tests/install.sh tests/readme.sh tests/targets.sh demo/affinity.sh
+    bindings/rust/Cargo.toml tool/Cargo.toml)
+cat > ../bin/cargo <<'END'
+#!/bin/sh
+name=$0
+case $name in */cargo) for name; do :; done ;; esac
+echo "ran $name"
+[ "$name" != "$(cat ../fails_outside)" ]
+END
+chmod +x ../bin/cargo
+mkdir -p tests/c build/cargo/release
+touch build/cargo/release/durpaxeta
+for name in "${each[@]}"; do
+    case $name in *.sh) cp ../bin/cargo "$name" ;; esac
+done
+cp "$from/tests/outside.sh" tests/outside.sh
+build lib || wrong 'make lib failed'
+for name in none "${each[@]}"; do
+    echo "$name" > ../fails_outside
+    status=0
+    tests/outside.sh --built > "$folder/said" 2>&1 || status=$?
+    case $name in
+        none)
+            [ "$status" = 0 ] || wrong "tests/outside.sh ends with $status where nothing fails"
+            for name in "${each[@]}"; do grep -qxF "ran $name" "$folder/said" || wrong "tests/outside.sh does not run $name"; done
+            ;;
+        *) [ "$status" != 0 ] || wrong "tests/outside.sh passes over a failure of $name" ;;
+    esac
+done
+echo 'make lib, what needs it, make test and the tests around the archive: as it should be'

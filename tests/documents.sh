@@ -33,7 +33,7 @@ for path in $(grep -ohE '`[a-z_]+::[a-z_:]+`' "${pages[@]}" | tr -d '`' | sort -
     grep -rqE "(fn|mod|enum|struct|const) $name\b" "crates/$crate/src" || wrong "$path is named and is not there"
 done
 
-for target in $(grep -ohE '(`|^ {4})make [a-z]+' "${pages[@]}" | awk '{print $NF}' | sort -u); do
+for target in $(grep -ohE '(`|^ {4})make [a-z-]+' "${pages[@]}" | awk '{print $NF}' | sort -u); do
     grep -qE "^$target:" Makefile oracle/oracle.mk || wrong "make $target is named and is no target"
 done
 

@@ -16,7 +16,9 @@ files() { (cd "$1" && find . -type f | sort); }
 version=$(cat VERSION)
 prefix=$folder/usr
 make install PREFIX="$prefix" > "$folder/said" || { cat "$folder/said"; wrong 'make install failed'; }
-diff <(files "$prefix") - <<'END' || wrong 'other files than these'
+calls=$(package/calls.sh)
+[ -n "$calls" ] || wrong 'no calls found in the header'
+cat > "$folder/files" <<'END'
 ./bin/durpaxeta
 ./include/durpaxeta.h
 ./lib/libdurpaxeta.a
@@ -24,6 +26,8 @@ diff <(files "$prefix") - <<'END' || wrong 'other files than these'
 ./share/man/man1/durpaxeta.1
 ./share/man/man3/durpaxeta.3
 END
+sed 's|.*|./share/man/man3/&.3|' <<< "$calls" >> "$folder/files"
+diff <(files "$prefix") <(sort "$folder/files") || wrong 'other files than these'
 
 # A program, in a folder of its own. Where there is no pkg-config the file is read by the shell, whose ${..} it uses.
 pc=$prefix/lib/pkgconfig/durpaxeta.pc
@@ -64,21 +68,36 @@ for manifest in bindings/rust/Cargo.toml tool/Cargo.toml; do
     grep -qx "version = \"$version\"" "$manifest" || wrong "$manifest has another version than $version"
 done
 
-# The pages have every call and every command, and troff has nothing to say about them.
-for call in $(nm --extern-only --defined-only --format=posix build/libdurpaxeta.a | awk 'NF > 1 {print $1}'); do
-    grep -qF "$call(" "$prefix/share/man/man3/durpaxeta.3" || wrong "$call is not in the man page"
+# The pages have every call and every command. Each call's own page leads to that of them all, and man finds it.
+pages=$prefix/share/man
+for call in $calls; do
+    grep -qxF ".SS $call" "$pages/man3/durpaxeta.3" || wrong "$call is not in the man page"
+    [ "$(cat "$pages/man3/$call.3")" = '.so man3/durpaxeta.3' ] || wrong "$call.3 leads elsewhere"
+    if command -v man > /dev/null; then
+        man -M "$pages" --pager=cat "$call" > "$folder/page" 2>&1 || { cat "$folder/page"; wrong "man does not find $call"; }
+        grep -qF "$call(" "$folder/page" || wrong "man shows something else for $call"
+    fi
 done
-commands=$(grep -oE 'Command \{ name: "[a-z]+"|^ +name: "[a-z]+"' tool/src/commands.rs | grep -oE '[a-z]+"$' | tr -d '"')
+commands=$(grep -oE '^ +(Command \{ )?name: "[a-z]+' tool/src/commands.rs | grep -oE '[a-z]+$' | sort -u)
 [ -n "$commands" ] || wrong 'no commands found'
 for command in $commands; do
-    grep -qx ".SS $command" "$prefix/share/man/man1/durpaxeta.1" || wrong "$command is not in the man page"
+    grep -qx ".SS $command" "$pages/man1/durpaxeta.1" || wrong "$command is not in the man page"
 done
+
+# Troff has nothing to say about them, and they flow: to a narrow terminal, where examples alone keep their lines, and to a wide one.
 if command -v groff > /dev/null; then
-    for page in "$prefix"/share/man/man?/durpaxeta.?; do
+    # shellcheck disable=SC2086 # none is no word
+    for command in '' $commands; do "$prefix/bin/durpaxeta" help $command | sed '1,/^Examples:/d; s/^ *//'; done > "$folder/examples"
+    for page in "$pages"/man?/durpaxeta.?; do
         said=$(groff -k -man -ww -z -Tutf8 "$page" 2>&1)
         [ -z "$said" ] || wrong "$said"
+        # at so many columns, the lines that are as long as that
+        shown() { groff -k -man -Tascii -P-cbou -rLL="$1n" "$page" | grep -E "^.{$2}" | sed 's/^ *//' | sort -u || true; }
+        beyond=$(shown 72 73 | grep -vxFf "$folder/examples" || true)
+        [ -z "$beyond" ] || wrong "${page##*/} has lines that are wider than a terminal of 72 columns: $beyond"
+        [ "$(shown 160 140 | grep -cvxFf "$folder/examples")" -ge 20 ] || wrong "${page##*/} does not use a wide terminal"
     done
-    groff -k -man -Tutf8 "$prefix/share/man/man1/durpaxeta.1" | grep -qF -- '--kind "depth 2, ragged' || wrong 'the man page has lost its text'
+    groff -k -man -Tutf8 "$pages/man1/durpaxeta.1" | grep -qF -- '--kind "depth 2, ragged' || wrong 'the man page has lost its text'
 fi
 
 # Staged: the files lie in DESTDIR and speak of PREFIX. Then away again.
@@ -90,7 +109,9 @@ if grep -rqF "$folder" "$folder/stage/opt/durpaxeta/lib/pkgconfig" "$folder/stag
 fi
 make uninstall DESTDIR="$folder/stage" PREFIX=/opt/durpaxeta > /dev/null
 [ -z "$(files "$folder/stage")" ] || wrong 'make uninstall leaves files'
-if make install PREFIX=here > /dev/null 2>&1 || [ -e here ]; then
-    wrong 'a PREFIX that is no absolute path is taken'
-fi
+for target in install uninstall; do
+    if make "$target" PREFIX=here > /dev/null 2>&1 || [ -e here ]; then
+        wrong "make $target takes a PREFIX that is no absolute path"
+    fi
+done
 echo "installed, built and run $how; version $version in the header, the command, the crates and the package"

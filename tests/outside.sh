@@ -1,7 +1,7 @@
 #!/usr/bin/env bash
 # Everything around the proved code: builds the archive, then tests the C interface (plain, under valgrind, with the
-# sanitizers), the Rust wrapper, the command, what is installed, the README's examples and the demonstration; the build itself
-# and what the documents name.
+# sanitizers), the Rust wrapper, the command, what is installed, the README's examples and the demonstration; the build itself,
+# what the documents name, and the make targets of the comparison, the fuzzer and the benchmark.
 # With --built the archive in build/ is taken as it is. Any failure ends the script with a status other than 0.
 set -euo pipefail
 cd "$(dirname "$0")/.."
@@ -12,12 +12,6 @@ say() { printf '\n== %s\n' "$*"; }
 if [ "${1:-}" != --built ]; then
     say 'archive and header'
     make --no-print-directory --always-make lib
-    # The archive stands alone: it takes nothing but these four of the C library.
-    undefined=$(nm --undefined-only --format=posix build/libdurpaxeta.a | awk 'NF > 1 {print $1}' | sort -u)
-    if grep -vxE 'memcpy|memmove|memset|memcmp|_GLOBAL_OFFSET_TABLE_' <<< "${undefined:-memcpy}"; then
-        echo 'outside: the archive needs the symbols above' >&2
-        exit 1
-    fi
 else
     touch build/libdurpaxeta.a
 fi
@@ -28,58 +22,52 @@ tests/build.sh
 say 'documents'
 tests/documents.sh
 
-say 'exported names'
-diff <(nm --extern-only --defined-only --format=posix build/libdurpaxeta.a | awk 'NF > 1 {print $1}' | sort) - <<'END'
-dpx_arrangement
-dpx_decode
-dpx_decode_interleaved
-dpx_encode
-dpx_encode_interleaved
-dpx_extract
-dpx_generate
-dpx_guest_edit
-dpx_guest_read
-dpx_merge
-dpx_partial_decode
-dpx_reverse_endianness
-dpx_subset_cells
-dpx_table_make
-dpx_table_pack
-dpx_table_preview
-dpx_table_read
-dpx_table_set
-END
-echo 'the eighteen calls, and nothing else'
+say 'symbols'
+tests/symbols.sh
 
-# The tests by cargo need nothing of those in C, and run beside them; what they say comes behind.
-cargo_tests() {
+# The rest runs in parts beside each other, since none needs what another makes. What a part says comes behind, and all end before this does.
+rust() {
     say 'Rust wrapper'
     cargo test --offline --locked --quiet --manifest-path bindings/rust/Cargo.toml
 
     say 'command'
     cargo test --offline --locked --quiet --manifest-path tool/Cargo.toml
 }
-(cargo_tests) > build/cargo-tests.log 2>&1 &
-beside=$!
-# Where a test in C fails, those by cargo end first. They leave links, which rt ci takes nowhere in a checkout.
+c() {
+    say 'C interface'
+    tests/c/run.sh
+}
+tool() {
+    say 'installation'
+    tests/install.sh
+
+    say 'examples of the README'
+    tests/readme.sh
+
+    say 'demonstration'
+    make --no-print-directory tool
+    demo/affinity.sh
+}
+targets() {
+    say 'comparison, fuzzer and benchmark'
+    tests/targets.sh "$@"
+}
+parts=(c rust tool targets)
+running=()
+# Tests by cargo leave links, which rt ci takes nowhere in a checkout.
 trap 'wait; rm -rf build/cargo/tmp' EXIT
-
-say 'C interface'
-tests/c/run.sh
-
-status=0
-wait "$beside" || status=$?
-cat build/cargo-tests.log
-[ "$status" = 0 ] || exit "$status"
-
-say 'installation'
-tests/install.sh
-
-say 'examples of the README'
-tests/readme.sh
-
-say 'demonstration'
-make --no-print-directory tool
-demo/affinity.sh
+for part in "${parts[@]}"; do
+    (set -e; "$part" "$@") > "build/outside-$part.log" 2>&1 &
+    running+=($!)
+done
+failed=()
+for i in "${!parts[@]}"; do
+    wait "${running[i]}" || failed+=("${parts[i]}")
+    cat "build/outside-${parts[i]}.log"
+done
+if [ "${#failed[@]}" != 0 ]; then
+    echo "outside: failed, see above and build/outside-*.log: ${failed[*]}" >&2
+    exit 1
+fi
 
 say 'outside: all passed'

@@ -607,6 +607,10 @@ fn agree(ours: &Outcome, rust: &Result<request::Results, String>) -> bool {
 impl Sink for Compare {
     fn ask(&mut self, request: Request) {
         self.hold(&request, &request.judged());
+        let asked = NOW.load(Ordering::Relaxed);
+        if asked >= 10_000 && asked == 10u64.pow(asked.ilog10()) {
+            println!("{asked} requests so far, {} differences", self.counts.differences.iter().sum::<u64>());
+        }
     }
     fn asked(&self) -> u64 {
         self.counts.requests.iter().flatten().sum()
