@@ -130,6 +130,7 @@ enum dpx_refusal {
                         start elsewhere than at 0 with no bytes; a rights plane has not one byte a cell, or one over 01 */
     DPX_SIZE = 5,    /* over 16,777,216 value bytes, or bytes of a store */
     DPX_COVER = 12,  /* the subsets of a merge miss a cell or hold one twice */
+    DPX_FIELD = 20,  /* an offset for an index of width 4, or a cell's length in the older form, is over 4,294,967,295 */
 
     /* Whoever sets a cell of a working table, or asks what a setting would do. */
     DPX_CELL = 15, /* the number of the cell is the count of cells, or above it */
@@ -193,6 +194,8 @@ static inline const char *dpx_refusal_text(uint32_t refusal)
     case DPX_HIDDEN: return "refusal 18: the rights plane hides that cell from the guest" DPX_SETTER;
     case DPX_ARRANGEMENT: return "refusal 19: there is no arrangement of that number: there are depth + 4 to the power of the"
                                  " cells, numbered from 0" DPX_NUMBERER;
+    case DPX_FIELD: return "refusal 20: an offset for an index of 4 bytes, or the length of a cell of the interleaved form, is"
+                           " over 4,294,967,295" DPX_SUPPLIER;
     default: return "no answer of this version";
     }
 }
@@ -440,6 +443,8 @@ static inline dpx_cell dpx_table_cell(dpx_kind kind, uint64_t cells,
  *                  and below a null too; fixed: values_len is not cells * size, or there are offsets; ragged: offsets_len
  *                  is not cells + 1, the first is not 0, offsets fall, or the last is not values_len
  *   5 DPX_SIZE     whoever hands over the array: the last offset is over 16,777,216
+ *  20 DPX_FIELD    whoever hands over the array: in width 4 an offset that is written, laid from 0 over the values that are
+ *                  left, is over 4,294,967,295
  *   6 DPX_OUTPUT   whoever lends the output: out_len is under the written length
  */
 uint32_t dpx_encode(dpx_kind kind,
@@ -533,6 +538,7 @@ uint32_t dpx_decode_interleaved(uint64_t cells,
  *   2 DPX_SHAPE    whoever describes the table
  *   4 DPX_CONTENT  whoever hands over the array: as for dpx_encode; so masks_len is 0
  *   5 DPX_SIZE     whoever hands over the array: the last offset is over 16,777,216
+ *  20 DPX_FIELD    whoever hands over the array: a cell has over 4,294,967,295 bytes, whatever the width is
  *   6 DPX_OUTPUT   whoever lends the output: out_len is under the written length
  */
 uint32_t dpx_encode_interleaved(dpx_kind kind,

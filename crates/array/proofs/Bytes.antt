@@ -1,6 +1,6 @@
 -- Digits, for any base and width: as many as the width, read as they were written, and written as they were read.
 -- Assumes nothing.
-use mathlib.Core.Path.{◌≡◌, refl, sym, ap, ap₂, ◌∙◌}
+use mathlib.Core.Path.{◌≡◌, refl, sym, ap, ap₂, ◌∙◌, subst}
 use Prim.Native.Nat.{ℕ, zero, suc, ◌+◌, ◌-◌, ◌*◌, ◌/◌, ◌%◌, ◌^◌, ◌<◌}
 use native.Mathlib.Nat.{mod-add-div, mod-eq_of_lt, mod-lt, add-mul-mod_self_left, add-mul-div_left, div-eq_of_lt, div-lt_iff_lt-mul, pow-zero}
 use native.Mathlib.Nat.{pow-suc, zero-lt-suc, zero-add, div-one, div-div-eq-div-mul, pow-succ', sub-zero, zero-div, mul-zero, mul-suc, mul-le-mul_left, add_comm}
@@ -98,6 +98,11 @@ le-unle s p = digits_number 256 (zero-lt-suc 255) s p
 -- so many bytes are what their number is written as
 pub number_again : {k : ℕ} (s : List ℕ) → length s ≡ k → AllBytes s → le k (unle s) ≡ s
 number_again s e b = ap (λ (n : ℕ). le n (unle s)) (sym e) ∙ le-unle s b
+
+-- and their number is below that of one byte more
+pub unle_below : {k : ℕ} (s : List ℕ) → length s ≡ k → AllBytes s → unle s < 256 ^ k
+unfolding unle
+unle_below s e b = subst (λ (k : ℕ). unle s < 256 ^ k) e (number_below 256 (zero-lt-suc 255) s b)
 
 pub bytes_take : (k : ℕ) (s : List ℕ) → AllBytes s → AllBytes (take k s)
 bytes_take k s b = All-take (λ x. x < 256) k s b

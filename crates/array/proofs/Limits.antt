@@ -14,8 +14,8 @@ pub record Limits : Type 0 where
   pub size_65 : kind_test (byte_kind 4 (fixed 65 little)) ≡ false
   pub all_cells : shape_test (65536 ∷ []) ≡ true
   pub one_cell_more : shape_test (65537 ∷ []) ≡ false
-  pub all_bytes : size_test 16777216 ≡ true
-  pub one_byte_more : size_test 16777217 ≡ false
+  pub all_bytes : size_test 8589934592 ≡ true
+  pub one_byte_more : size_test 8589934593 ≡ false
 
 pub limits : Limits
 unfolding most_bytes most_cells

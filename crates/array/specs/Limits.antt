@@ -20,4 +20,4 @@ most_cells = 65536
 
 -- value bytes of an array, of a merge and of a stored form
 unfoldable pub most_bytes : ℕ
-most_bytes = 16777216
+most_bytes = 8589934592

@@ -73,6 +73,7 @@ number_of Refusal.Full = 16
 number_of Refusal.NoMasks = 17
 number_of Refusal.Hidden = 18
 number_of Refusal.Arrangement = 19
+number_of Refusal.Field = 20
 
 -- what an answer of the code says: what is given, a length or the lengths, or the refusal by its number
 abbrev pub told : {A : Type 0} → Result A Refusal → Answer A

@@ -22,10 +22,15 @@ pub enum Refusal {
 
     // Mask, value, offset or chunk lengths disagree, offsets break their rule, or a mask byte is over 01.
     Content,
-    // Over 16,777,216 value bytes.
+    // Over 8,589,934,592 value bytes; of a working table a store over 16,777,216 bytes.
     Size,
     // The subsets miss a cell or hold one twice.
     Cover,
+
+    // Whoever chooses the form that is written.
+
+    // An offset for an index of width 4, or a cell's length in the older form, over 4,294,967,295.
+    Field,
 
     // Whoever lends the output.
 
@@ -89,6 +94,7 @@ impl Refusal {
             Refusal::NoMasks => 17,
             Refusal::Hidden => 18,
             Refusal::Arrangement => 19,
+            Refusal::Field => 20,
         }
     }
 }
@@ -103,6 +109,7 @@ impl fmt::Display for Refusal {
             Refusal::Content => "masks, values, offsets or chunks do not keep the rules",
             Refusal::Size => "there are too many value bytes",
             Refusal::Cover => "the subsets do not cover the shape once",
+            Refusal::Field => "an offset or a length does not fit its field",
             Refusal::Output => "an output is shorter than the result",
             Refusal::Short => "the stored bytes are too few for their fields",
             Refusal::Length => "a stored length disagrees",

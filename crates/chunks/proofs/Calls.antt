@@ -1,6 +1,6 @@
 -- The calls on valid input: what they give.
 -- Assumes nothing.
-use mathlib.Core.Path.{◌≡◌, refl, sym, ap, ◌∙◌}
+use mathlib.Core.Path.{◌≡◌, refl, sym, ap, ◌∙◌, subst}
 use Prim.Native.Nat.{ℕ, ◌^◌, ◌<◌, ◌≤◌}
 use native.Mathlib.Omega.{arith}
 use mathlib.Core.List.{List, map}
@@ -16,12 +16,14 @@ use Rattle.array.specs.declared.answer.Lengths.{Lengths}
 use Rattle.array.specs.Buffers.{Enough, enough_test, if_room}
 use Rattle.array.proofs.Answers.{pass}
 use Rattle.array.proofs.Rules.{kind_test_lem, shape_test_lem, numbers_test_lem, rest_passes, enough_test_lem}
-use Rattle.array.proofs.LayoutLaws.{Good}
+use Rattle.array.proofs.LayoutLaws.{cells_layout, Good}
 use Rattle.array.proofs.Resting.{laid_valid}
 use Rattle.codec.specs.Mask.{mask_form}
-use Rattle.codec.specs.Frame.{frame}
+use Rattle.codec.specs.Frame.{frame, live}
 use Rattle.codec.specs.Values.{put_values}
-use Rattle.codec.specs.Calls.{stored_form, read_in, encode_answer, decode_answer}
+use Rattle.codec.specs.Carried.{Carried}
+use Rattle.codec.specs.Calls.{stored_form, values_left, read_in, encode_answer, decode_answer}
+use Rattle.codec.proofs.Carried.{carried_test_lem}
 use Rattle.codec.proofs.Lengths.{frame_small}
 use Rattle.codec.proofs.RoundTrip.{stored_layout, read_layout}
 use Rattle.chunks.specs.Cut.{cut_of}
@@ -55,18 +57,22 @@ module _ (k : Kind) (ok : KindOk k) (shape : List ℕ) (sh : ShapeOk shape) (xs 
   pub valid_layout : Valid k shape here
   valid_layout = laid_valid ok sh g
 
-  pub encode_gives : (r : ℕ) → length (stored_form k (volume shape) here) ≤ r → encode_answer k shape here r ≡ gives stored
+  -- where the index carries what is written
+  pub encode_gives : Carried k.form (live k.depth xs) → (r : ℕ) → length (stored_form k (volume shape) here) ≤ r → encode_answer k shape here r ≡ gives stored
   unfolding encode_answer
-  encode_gives r e =
+  encode_gives w r e =
+      let left : Carried k.form (values_left k (volume shape) here) =
+      subst (λ (ys : List (Cell k.depth)). Carried k.form (live k.depth ys)) (sym (cells_layout k (volume shape) xs g.counted g.sized)) w in
       pass 1 (kind_test_lem k ok) (pass 2 (shape_test_lem shape sh) (rest_passes k (volume shape) here valid_layout.content g.small
-      (pass 6 (le-leb (length (stored_form k (volume shape) here)) r e) (ap gives (stored_layout k (volume shape) xs g)))))
+      (pass 20 (carried_test_lem k.form (values_left k (volume shape) here) left)
+      (pass 6 (le-leb (length (stored_form k (volume shape) here)) r e) (ap gives (stored_layout k (volume shape) xs g))))))
 
-  pub decode_gives : (r : Lengths) → Enough resting r → decode_answer k shape stored r ≡ gives resting
+  pub decode_gives : Carried k.form (live k.depth xs) → (r : Lengths) → Enough resting r → decode_answer k shape stored r ≡ gives resting
   unfolding decode_answer
-  decode_gives r e =
+  decode_gives w r e =
       let fits : length stored < 256 ^ 8 = frame_small k.masks k.form ok.sound k.depth xs ok.shallow (omega (arith, g.counted, sh.few_cells)) g.small in
       pass 1 (kind_test_lem k ok) (pass 2 (shape_test_lem shape sh)
       (ap (λ (a : Answer Content). and_then a (λ c. unless (enough_test c r) 6 (gives c)))
       (ap (λ (n : ℕ). read_in (mask_form k.masks) k.form k.depth n stored) (sym g.counted)
-      ∙ read_layout k.masks k.form k.depth xs ok.sound g.sized g.strict g.small fits)
+      ∙ read_layout k.masks k.form k.depth xs g.sized g.strict g.small w fits)
       ∙ pass 6 (enough_test_lem resting r e) refl))

@@ -25,6 +25,8 @@ use Rattle.array.proofs.LayoutLaws.{cells_layout, Good, All-leaves, good_cells, 
 use Rattle.array.proofs.Resting.{good_rest}
 use Rattle.array.proofs.RestLaws.{rest_blank, leaf_blank}
 use Rattle.array.proofs.Taken.{taken_content, taken_bytes_lem}
+use Rattle.codec.specs.Frame.{live}
+use Rattle.codec.specs.Carried.{Carried}
 use Rattle.codec.specs.Calls.{encoded, decoded, encode_answer, decode_answer}
 use Rattle.chunks.specs.Gather.{gather, put_back, Once, once_test}
 use Rattle.chunks.specs.Cut.{cells_at, cut_of}
@@ -98,16 +100,18 @@ module _ (k : Kind) (shape : List ℕ) (c : Content) (v : Valid k shape c) where
       let el : lengths b ≡ ls = lengths_subset sides ns ok.numbers.counted in
       let sh : ShapeOk ls = subst ShapeOk el (subset_shape shape b v.shaped ok.numbers.fits (subst (All (λ n. 1 ≤ n)) (sym el) ok.full)) in
       let g : Good k (volume ls) xs = subst (λ (l : List ℕ). Good k (volume l) xs) el (good_subset b ok.numbers.fits o) in
+      let w : Carried k.form (live d xs) =
+      subst (λ (ys : List (Cell d)). Carried k.form (live d ys)) (cells_layout k (volume ls) xs g.counted g.sized) ok.carried in
       let back : Enough (rest_cells b) (lengths_of e.back) = subst (λ (x : Content). Enough x (lengths_of e.back)) (rest_of_cut_lem ns ok.numbers) ok.back_enough in
       ap (λ (a : Answer Taken). and_then a (λ x. and_then (taken_bytes (encoded k ls x.content e.stored)) (λ s. and_then (taken (decoded k ls s e.back)) (λ y. gives y.content))))
       (taken_content (extract_answer k shape ns c (lengths_of e.cut)) e.cut
       ∙ ap (λ (a : Answer Content). and_then a (λ x. gives (whole x))) (extract_gives k shape c v ns ok.numbers (lengths_of e.cut) ok.cut_enough))
       ∙ ap (λ (a : Answer (List ℕ)). and_then a (λ s. and_then (taken (decoded k ls s e.back)) (λ y. gives y.content)))
       (taken_bytes_lem (encode_answer k ls (layout k.form d xs) (length e.stored)) e.stored
-      ∙ encode_gives k v.kind ls sh xs g (length e.stored) ok.stored_enough)
+      ∙ encode_gives k v.kind ls sh xs g w (length e.stored) ok.stored_enough)
       ∙ ap (λ (a : Answer Taken). and_then a (λ y. gives y.content))
       (taken_content (decode_answer k ls _ (lengths_of e.back)) e.back
-      ∙ ap (λ (a : Answer Content). and_then a (λ x. gives (whole x))) (decode_gives k v.kind ls sh xs g (lengths_of e.back) back))
+      ∙ ap (λ (a : Answer Content). and_then a (λ x. gives (whole x))) (decode_gives k v.kind ls sh xs g w (lengths_of e.back) back))
 
   -- ---- all subsets
 

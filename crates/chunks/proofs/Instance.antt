@@ -81,6 +81,7 @@ wide_ok = record {
   numbers = record { counted = refl; fits = omega arith };
   full = omega arith;
   cut_enough = record { for_masks = lit≤ tt; for_values = lit≤ tt; for_offsets = lit≤ tt };
+  carried = omega arith;
   stored_enough = lit≤ tt;
   back_enough = record { for_masks = lit≤ tt; for_values = lit≤ tt; for_offsets = lit≤ tt };
 }
@@ -91,6 +92,7 @@ narrow_ok = record {
   numbers = record { counted = refl; fits = omega arith };
   full = omega arith;
   cut_enough = record { for_masks = lit≤ tt; for_values = lit≤ tt; for_offsets = lit≤ tt };
+  carried = omega arith;
   stored_enough = lit≤ tt;
   back_enough = record { for_masks = lit≤ tt; for_values = lit≤ tt; for_offsets = lit≤ tt };
 }
@@ -149,7 +151,7 @@ one_valid = record {
 }
 
 older_way : OlderWay flat (1 ∷ []) one (old 10) (lent_ragged 2 3)
-older_way = older_returns as_bytes 4 at_start (1 ∷ []) one one_valid (old 10) (lit≤ tt) (lent_ragged 2 3) (record { for_values = lit≤ tt; for_offsets = lit≤ tt })
+older_way = older_returns as_bytes 4 at_start (1 ∷ []) one one_valid (omega arith) (old 10) (lit≤ tt) (lent_ragged 2 3) (record { for_values = lit≤ tt; for_offsets = lit≤ tt })
 
 pub older_written : interleaved_encoded flat (1 ∷ []) one (old 10) ≡ wrote 9 (u32 1 ++ (u32 1 ++ (0x42 ∷ [])))
 unfolding le put_cells put_interleaved

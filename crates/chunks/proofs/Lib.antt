@@ -10,3 +10,4 @@ pub mod Refusals
 pub mod Demand1
 pub mod ReadThenCut
 pub mod Instance
+pub mod Longer

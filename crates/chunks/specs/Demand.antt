@@ -1,7 +1,7 @@
 -- docs/SPEC.md, S8.3 to S8.7: demand 3, as one claim over the calls and the buffers lent to them.
--- Any valid array A, cut into any list of subsets that covers it, each cut written, read back, all merged. Nothing is refused, the outcome is
--- A's rest form, and cutting any subset Q from the outcome gives the rest form of Q cut from A. Compared are masks, value bytes, offsets and
--- the lengths that success names.
+-- Any valid array A, cut into any list of subsets that covers it, each cut written, read back, all merged. Where no writing meets
+-- 20, nothing is refused, the outcome is A's rest form, and cutting any subset Q from the outcome gives the rest form of Q cut from A. Compared
+-- are masks, value bytes, offsets and the lengths that success names.
 -- Assumes nothing.
 use Rattle.std.specs.Prelude.{ℕ, ◌≤◌, ◌<◌, ◌≡◌, List, [], ◌∷◌, map, length, drop}
 use Rattle.array.specs.Answer.{Answer, gives, and_then}
@@ -11,7 +11,8 @@ use Rattle.array.specs.Shape.{volume}
 use Rattle.array.specs.Subset.{Subset, subset_of, NumbersOk, coordinates, inside_test}
 use Rattle.array.specs.Content.{Content, Valid, rest_form}
 use Rattle.array.specs.Buffers.{lengths_of, Enough, Taken, taken, taken_bytes, whole}
-use Rattle.codec.specs.Calls.{stored_form, encoded, decoded}
+use Rattle.codec.specs.Carried.{Carried}
+use Rattle.codec.specs.Calls.{stored_form, values_left, encoded, decoded}
 use Rattle.chunks.specs.Cut.{cut_of}
 use Rattle.chunks.specs.Chunks.{no_content, follow}
 use Rattle.chunks.specs.Calls.{extracted, merged}
@@ -52,12 +53,13 @@ module _ (k : Kind) (shape : List ℕ) (A : Content) where
   abbrev pub whole_way : List Entry → Content → Answer Taken
   whole_way es out = and_then (each_way es) (λ all. taken (merged k shape (joined (map (λ (e : Entry). e.subset) es)) all out))
 
-  -- a subset that may stand in the list: one start and one length a side, within the shape, holding a cell; its outputs long enough,
-  -- which is that 6 does not hold: none is shorter than its result needs
+  -- a subset that may stand in the list: one start and one length a side, within the shape, holding a cell; its writing meets no 20, so that
+  -- the index carries each offset that is written; its outputs long enough, which is that 6 does not hold: none is shorter than its result needs
   pub record EntryOk (e : Entry) : Type 0 where
     pub numbers : NumbersOk shape e.subset
     pub full : All (λ n. 1 ≤ n) (shape_of shape e.subset)
     pub cut_enough : Enough (cut_from e.subset) (lengths_of e.cut)
+    pub carried : Carried k.form (values_left k (volume (shape_of shape e.subset)) (cut_from e.subset))
     pub stored_enough : length (stored_form k (volume (shape_of shape e.subset)) (cut_from e.subset)) ≤ length e.stored
     pub back_enough : Enough (rest_of_cut e.subset) (lengths_of e.back)
 

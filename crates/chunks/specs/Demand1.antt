@@ -18,7 +18,7 @@ use Rattle.chunks.specs.Calls.{extracted, merged, partially_decoded}
 -- ---- the numbers of each call, in the order of their tests
 
 abbrev pub encode_numbers : List ℕ
-encode_numbers = 1 ∷ 2 ∷ 4 ∷ 5 ∷ 6 ∷ []
+encode_numbers = 1 ∷ 2 ∷ 4 ∷ 5 ∷ 20 ∷ 6 ∷ []
 
 abbrev pub decode_numbers : List ℕ
 decode_numbers = 1 ∷ 2 ∷ 7 ∷ 8 ∷ 13 ∷ 14 ∷ 10 ∷ 5 ∷ 6 ∷ []
@@ -27,7 +27,7 @@ abbrev pub interleaved_numbers : List ℕ
 interleaved_numbers = 2 ∷ 7 ∷ 9 ∷ 11 ∷ 5 ∷ 6 ∷ []
 
 abbrev pub encode_interleaved_numbers : List ℕ
-encode_interleaved_numbers = 1 ∷ 2 ∷ 4 ∷ 5 ∷ 6 ∷ []
+encode_interleaved_numbers = 1 ∷ 2 ∷ 4 ∷ 5 ∷ 20 ∷ 6 ∷ []
 
 abbrev pub extract_numbers : List ℕ
 extract_numbers = 1 ∷ 2 ∷ 3 ∷ 4 ∷ 5 ∷ 6 ∷ []

@@ -7,3 +7,4 @@ pub mod Lines
 pub mod Refusals
 pub mod Demand1
 pub mod ReadThenCut
+pub mod Longer

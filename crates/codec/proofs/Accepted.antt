@@ -1,7 +1,7 @@
 -- What is read of stored ragged values keeps the rules of an array, and written again it is the same bytes.
 -- Assumes nothing.
 use mathlib.Core.Path.{◌≡◌, refl, sym, ap, ap₂, ◌∙◌, subst}
-use Prim.Native.Nat.{ℕ, zero, suc, ◌-◌, ◌*◌, ◌≤◌}
+use Prim.Native.Nat.{ℕ, zero, suc, ◌-◌, ◌*◌, ◌^◌, ◌<◌, ◌≤◌}
 use native.Mathlib.Nat.{zero-mul, suc-mul, mul_comm}
 use native.Mathlib.Omega.{arith}
 use mathlib.Core.List.{List, ◌∷◌, map}
@@ -10,17 +10,18 @@ use lib.Seq.{length-take-le}
 use borrow.Author.Tests.{le-leb, eq-eqb}
 use Rattle.array.specs.Answer.{gives}
 use Rattle.array.specs.Limits.{most_bytes}
-use Rattle.array.specs.Lists.{joined, pieces}
+use Rattle.array.specs.Lists.{joined, pieces, All}
 use Rattle.array.specs.Bytes.{le, unle, AllBytes}
 use Rattle.array.specs.Kind.{Place, at_start, at_end, ragged, byte_kind}
 use Rattle.array.specs.Offsets.{last, Rising}
 use Rattle.array.specs.Content.{RaggedContent, unmasked, ArrayOk}
 use Rattle.array.proofs.Answers.{same_given}
-use Rattle.array.proofs.Bytes.{bytes_take, bytes_drop, number_again}
+use Rattle.array.proofs.Bytes.{bytes_take, bytes_drop, number_again, unle_below}
 use Rattle.array.proofs.Lists.{length-pieces, sized-pieces, joined-pieces}
 use Rattle.array.proofs.Refusals.{Kept, all_kept}
 use Rattle.codec.specs.Ragged.{put, part_of, left_of, index_of, put_ragged, get_ragged}
 use Rattle.codec.specs.Refusals.{data_rules, ragged_rules}
+use Rattle.codec.proofs.Carried.{last_below}
 use Rattle.codec.proofs.Ragged.{check_gives}
 use Rattle.codec.proofs.Refusals.{ragged_order}
 
@@ -51,6 +52,14 @@ pieces_again w (suc n) s b l =
 
 index_again : (w n : ℕ) (s : List ℕ) → AllBytes s → length s ≡ n * w → index_of w (map unle (pieces w n s)) ≡ s
 index_again w n s b l = ap joined (pieces_again w n s b l) ∙ joined-pieces w n s l
+
+-- each of its offsets fits the width
+offsets_below : (w n : ℕ) (s : List ℕ) → AllBytes s → length s ≡ n * w → All (λ o. o < 256 ^ w) (map unle (pieces w n s))
+offsets_below w zero s b l = tt
+offsets_below w (suc n) s b l = (
+  unle_below (take w s) (sized-pieces w (suc n) s l).0 (bytes_take w s b),
+  offsets_below w n (drop w s) (bytes_drop w s b) (omega (arith, suc-mul n w, length-drop w s)),
+)
 
 -- ---- ragged values
 
@@ -97,6 +106,15 @@ module _ (w : ℕ) (p : Place) (s : List ℕ) (n : ℕ) (c : RaggedContent) (e :
 
   pub read_small : length c.values ≤ most_bytes
   read_small = ragged_ok.3
+
+  -- all the bytes have been carried
+  pub read_fits : AllBytes s → length c.values < 256 ^ w
+  read_fits b =
+      let li : length index ≡ index_length = length_part p index_length behind facts.1.0.0 in
+      let below : All (λ o. o < 256 ^ w) offsets =
+      offsets_below w (suc n) index (bytes_part p index_length behind (bytes_left p 8 s b)) (li ∙ facts.1.0.1 ∙ mul_comm w (suc n)) in
+      subst (λ (x : RaggedContent). length x.values < 256 ^ w) read_is
+      (omega (arith, of_data.0, last_below (256 ^ w) (unle (take w index)) (map unle (pieces w n (drop w index))) below.0 below.1))
 
   -- written, they are the index length, the index and the data again
   pub ragged_again : AllBytes s → put_ragged w p c ≡ s

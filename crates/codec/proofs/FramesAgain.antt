@@ -2,6 +2,7 @@
 -- Assumes nothing.
 use mathlib.Core.Path.{◌≡◌, refl, sym, ap, ap₂, ◌∙◌, subst}
 use Prim.Native.Nat.{ℕ, zero, suc, ◌+◌, ◌≤◌}
+use native.Mathlib.Nat.{one-le-pow, zero-lt-suc}
 use native.Mathlib.Omega.{arith}
 use mathlib.Core.Bool.{true}
 use mathlib.Core.List.{List, [], ◌∷◌, ◌++◌}
@@ -64,11 +65,11 @@ spread_bytes (suc (suc m) ∷ ms) vs = spread_bytes ms vs
 
 fit_spread : (f : Form) (ms : List ℕ) (vs : List Value) → Fit f vs → Fit f (spread (null_of f) ms vs)
 fit_spread (fixed k o) ms vs p = (All-spread (OfSize (fixed k o)) (null_of (fixed k o)) ms vs (null_sized (fixed k o)) p.0, tt)
-fit_spread (ragged w q) ms vs p = (All-spread (OfSize (ragged w q)) [] ms vs tt p.0, omega (arith, spread_bytes ms vs, p.1))
+fit_spread (ragged w q) ms vs p = (All-spread (OfSize (ragged w q)) [] ms vs tt p.0, (omega (arith, spread_bytes ms vs, p.1.0), omega (arith, spread_bytes ms vs, p.1.1)))
 
 fit_none : (f : Form) → Fit f []
 fit_none (fixed k o) = (tt, tt)
-fit_none (ragged w p) = (tt, omega arith)
+fit_none (ragged w p) = (tt, (omega arith, one-le-pow w 256 (zero-lt-suc 255)))
 
 -- ---- the parts of a stored frame
 

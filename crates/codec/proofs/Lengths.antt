@@ -10,26 +10,27 @@ use Rattle.array.specs.Limits.{most_bytes, most_cells}
 use Rattle.array.specs.Lists.{joined, All}
 use Rattle.array.specs.Kind.{Kind, Masks, Form, FormOk}
 use Rattle.array.specs.Cells.{Value, Cell, mask_of, leaf}
-use Rattle.array.specs.Content.{Content, ContentOk, leaves, cells_of}
+use Rattle.array.specs.Content.{Content, ContentOk, leaves, values_in, cells_of}
 use Rattle.array.proofs.Lists.{map_id}
 use Rattle.array.proofs.Sums.{sum_of}
 use Rattle.array.proofs.Sizes.{OfSize, SizedAs}
-use Rattle.array.proofs.LayoutLaws.{length-mask_of, bytes_sum, All-leaves, cells_sized}
+use Rattle.array.proofs.LayoutLaws.{length-mask_of, leaves-attach, values_length_lem, values_total, bytes_sum, All-leaves, cells_sized}
 use Rattle.codec.specs.Mask.{MaskForm, mask_form}
 use Rattle.codec.specs.Frame.{keep_one, keep, unless_none, frame, live}
 use Rattle.codec.specs.Values.{put_values}
 use Rattle.codec.specs.Length.{length_or_none, frame_length, written_length}
-use Rattle.codec.specs.Calls.{stored_form}
+use Rattle.codec.specs.Calls.{stored_form, values_left}
 use Rattle.codec.proofs.Frames.{length-keep-le, All-keep, length-wrap}
 use Rattle.codec.proofs.Masks.{mask_laws}
-use Rattle.codec.proofs.Values.{values_length_lem, length-put_values}
+use Rattle.codec.proofs.Values.{length-put_values}
+use Rattle.codec.proofs.Values as values
 
 -- ---- the sum over the levels
 
 pub frame-length : (mf : MaskForm) → ((ms : List ℕ) → length (mf.put ms) ≡ mf.size (length ms)) → (f : Form) (d : ℕ) (cs : List (Cell d)) → All (λ c. OfSize f (leaf d c)) cs
     → length (frame mf (put_values f) d cs) ≡ frame_length mf f d cs
 unfolding frame frame_length
-frame-length mf lm f zero cs s = values_length_lem f cs s
+frame-length mf lm f zero cs s = values.values_length_lem f cs s
 frame-length mf lm f (suc d) cs s =
     length-wrap (mf.put (mask_of cs)) (unless_none (frame mf (put_values f) d) (keep cs))
     ∙ ap₂ (λ (a b : ℕ). 16 + a + b) (lm (mask_of cs) ∙ ap mf.size (length-mask_of cs)) (inner (keep cs) (frame-length mf lm f d (keep cs)) (All-keep (λ c. OfSize f (leaf d c)) cs s))
@@ -56,6 +57,13 @@ bytes_keep d cs = omega (arith, bytes_sum d (keep cs), bytes_sum (suc d) cs, sum
 pub bytes_live : (d : ℕ) (cs : List (Cell d)) → length (joined (live d cs)) ≤ length (joined (leaves d cs))
 bytes_live zero cs = le_of_eq (ap (λ (vs : List Value). length (joined vs)) (sym (map_id cs)))
 bytes_live (suc d) cs = le_trans (bytes_live d (keep cs)) (bytes_keep d cs)
+
+-- no more bytes are written than the array has
+pub bytes_left : (k : Kind) (n : ℕ) (c : Content) → ContentOk k n c → length (joined (values_left k n c)) ≤ length c.values
+bytes_left k n c ok =
+    let vs : List Value = values_in k.form n c in
+    let el : leaves k.depth (cells_of k n c) ≡ vs = leaves-attach n vs (values_length_lem k.form n c ok.values_fit) k.depth c.masks ok.masks_fit in
+    omega (arith, bytes_live k.depth (cells_of k n c), ap (λ (us : List Value). length (joined us)) el, values_total k.form n c ok.values_fit)
 
 pub All-live : (P : Value → Type 0) (d : ℕ) (cs : List (Cell d)) → All (λ c. P (leaf d c)) cs → All P (live d cs)
 All-live P zero cs p = p

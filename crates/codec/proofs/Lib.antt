@@ -2,6 +2,7 @@ pub mod Frames
 pub mod Masks
 pub mod Ragged
 pub mod Values
+pub mod Carried
 pub mod Lengths
 pub mod RoundTrip
 pub mod Marks
@@ -14,3 +15,5 @@ pub mod Older
 pub mod ValuesAgain
 pub mod FramesAgain
 pub mod OneForm
+pub mod Longer
+pub mod Long

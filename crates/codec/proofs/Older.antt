@@ -1,7 +1,7 @@
 -- The older form is read as it was written (specs/Older).
 -- Assumes nothing.
 use mathlib.Core.Path.{◌≡◌, refl, sym, ap, ◌∙◌, subst}
-use Prim.Native.Nat.{ℕ, suc, ◌+◌, ◌*◌, ◌^◌, ◌<◌, ◌≤◌}
+use Prim.Native.Nat.{ℕ, suc, ◌+◌, ◌*◌, ◌≤◌}
 use native.Mathlib.Nat.{le_trans}
 use native.Mathlib.Omega.{arith}
 use mathlib.Core.List.{List, [], ◌∷◌, ◌++◌, map}
@@ -10,7 +10,7 @@ use lib.Seq.{take_at, drop_at}
 use borrow.Author.Tests.{le-leb, eq-eqb}
 use Rattle.array.specs.Answer.{Answer, gives, and_then, unless}
 use Rattle.array.specs.Limits.{most_bytes, most_cells}
-use Rattle.array.specs.Lists.{joined, All}
+use Rattle.array.specs.Lists.{joined}
 use Rattle.array.specs.Bytes.{le, unle}
 use Rattle.array.specs.Kind.{Kind}
 use Rattle.array.specs.Shape.{volume}
@@ -23,13 +23,11 @@ use Rattle.array.proofs.Bytes.{length-le, unle-le}
 use Rattle.array.proofs.Lists.{map_id}
 use Rattle.array.proofs.Rules.{both, kind_test_lem, shape_test_lem, rest_passes, size_test_lem, ragged_enough_test_lem}
 use Rattle.array.proofs.LayoutLaws.{values_length_lem, values_total}
+use Rattle.codec.specs.Carried.{FieldsFit}
 use Rattle.codec.specs.Interleaved.{interleaved_cells, put_cells, put_interleaved, interleaved_length}
 use Rattle.codec.specs.Calls.{interleaved_answer, interleaved_decoded, encode_interleaved_answer, interleaved_encoded}
 use Rattle.codec.specs.Older.{flat_kind, rest_ragged, OlderReturns}
-
--- a cell's length fits its field
-abbrev pub FieldFits : Value → Type 0
-FieldFits v = length v < 256 ^ 4
+use Rattle.codec.proofs.Carried.{fields_test_lem}
 
 pub length_cells : (vs : List Value) → length (put_cells vs) ≡ 4 * length vs + length (joined vs)
 unfolding put_cells
@@ -48,7 +46,7 @@ pub length_interleaved : (vs : List Value) → length (put_interleaved vs) ≡ i
 unfolding put_interleaved
 length_interleaved vs = omega (arith, length-append (le 4 (length vs)) (put_cells vs), length-le 4 (length vs), length_cells vs)
 
-pub cells_back : (vs : List Value) → All FieldFits vs → interleaved_cells (length vs) (put_cells vs) ≡ gives vs
+pub cells_back : (vs : List Value) → FieldsFit vs → interleaved_cells (length vs) (put_cells vs) ≡ gives vs
 unfolding interleaved_cells put_cells
 cells_back [] p = refl
 cells_back (v ∷ vs) p =
@@ -66,13 +64,8 @@ cells_back (v ∷ vs) p =
       cells_back vs p.1,
     )
 
--- a value is no longer than all of them
-fields_fit : (m : ℕ) (vs : List Value) → length (joined vs) < m → All (λ v. length v < m) vs
-fields_fit m [] h = tt
-fields_fit m (v ∷ vs) h = (omega (arith, length-append v (joined vs)), fields_fit m vs (omega (arith, length-append v (joined vs))))
-
 -- over the reading call
-pub older_reads : (vs : List Value) → length vs ≤ most_cells → All FieldFits vs → length (joined vs) ≤ most_bytes → (r : RaggedLengths) → RaggedEnough (end_to_end vs) r
+pub older_reads : (vs : List Value) → length vs ≤ most_cells → FieldsFit vs → length (joined vs) ≤ most_bytes → (r : RaggedLengths) → RaggedEnough (end_to_end vs) r
     → interleaved_answer (length vs) (put_interleaved vs) r ≡ gives (end_to_end vs)
 unfolding interleaved_answer put_interleaved most_cells
 older_reads vs few fit small r e =
@@ -85,14 +78,9 @@ older_reads vs few fit small r e =
     (ap (interleaved_cells (length vs)) (drop_at field (put_cells vs) 4 lf) ∙ cells_back vs fit)
     ∙ pass 5 (size_test_lem (length (joined vs)) small) (pass 6 (ragged_enough_test_lem (end_to_end vs) r e) refl))))
 
--- within the limits each length fits its field
-small_fits : (vs : List Value) → length (joined vs) ≤ most_bytes → All FieldFits vs
-unfolding most_bytes
-small_fits vs h = fields_fit (256 ^ 4) vs (omega arith)
-
 pub older_returns : OlderReturns
 unfolding interleaved_encoded encode_interleaved_answer interleaved_decoded
-older_returns x w p shape A v out ho back hb =
+older_returns x w p shape A v fit out ho back hb =
     let k : Kind = flat_kind x w p in
     let n : ℕ = volume shape in
     let vs : List Value = values_in k.form n A in
@@ -102,11 +90,11 @@ older_returns x w p shape A v out ho back hb =
     record {
       writes = ap (λ (a : Answer (List ℕ)). list_outcome a out)
           (pass 1 (both (both (kind_test_lem k v.kind) refl) refl) (pass 2 (shape_test_lem shape v.shaped) (rest_passes k n A v.content v.small
-          (pass 6 (le-leb (length (put_interleaved vs)) (length out) (omega (arith, length_interleaved vs))) refl))));
+          (pass 20 (fields_test_lem vs fit) (pass 6 (le-leb (length (put_interleaved vs)) (length out) (omega (arith, length_interleaved vs))) refl)))));
       long = length_interleaved vs;
       reads = ap (λ (a : Answer RaggedContent). ragged_outcome a back)
           (ap (λ (m : ℕ). interleaved_answer m (put_interleaved vs) (ragged_lengths_of back)) (sym lv)
-          ∙ older_reads vs (omega (arith, v.shaped.few_cells)) (small_fits vs total) total (ragged_lengths_of back)
+          ∙ older_reads vs (omega (arith, v.shaped.few_cells)) fit total (ragged_lengths_of back)
           (subst (λ (c : RaggedContent). RaggedEnough c (ragged_lengths_of back)) (sym same) hb)
           ∙ ap gives same);
     }

@@ -20,14 +20,17 @@ use Rattle.array.specs.Buffers.{lengths_of, enough_test, list_outcome, Taken, ta
 use Rattle.array.proofs.Answers.{pass, passed, went_on, same_given}
 use Rattle.array.proofs.Lists.{length-joined}
 use Rattle.array.proofs.Rules.{kind_ok, shape_ok}
-use Rattle.array.proofs.LayoutLaws.{Good}
+use Rattle.array.proofs.LayoutLaws.{cells_layout, Good}
 use Rattle.array.proofs.Resting.{laid_valid}
 use Rattle.array.proofs.Taken.{taken_content, taken_bytes_lem}
 use Rattle.codec.specs.Mask.{mask_form}
-use Rattle.codec.specs.Frame.{frame, read_frame}
+use Rattle.codec.specs.Frame.{frame, read_frame, live}
+use Rattle.codec.specs.Carried.{Carried}
 use Rattle.codec.specs.Values.{put_values, get_values}
-use Rattle.codec.specs.Calls.{stored_form, encode_answer, encoded, read_in, decode_answer, decoded}
+use Rattle.codec.specs.Calls.{stored_form, values_left, encode_answer, encoded, read_in, decode_answer, decoded}
 use Rattle.codec.specs.OneForm.{Reads, read_then_written, WrittenAgain, OneForm}
+use Rattle.codec.proofs.Carried.{below_carried}
+use Rattle.codec.proofs.Lengths.{bytes_live}
 use Rattle.codec.proofs.RoundTrip.{stored_layout}
 use Rattle.codec.proofs.Returns.{encode_gives}
 use Rattle.codec.proofs.ValuesAgain.{Fit}
@@ -37,7 +40,12 @@ use Rattle.codec.proofs.FramesAgain.{CellsAgain, frame_again}
 few_bytes : (f : Form) → FormOk f → (vs : List Value) → length vs ≤ most_cells → Fit f vs → length (joined vs) ≤ most_bytes
 unfolding most_cells most_bytes
 few_bytes (fixed k o) ok vs h p = omega (arith, length-joined k vs p.0, mul-le-mul h ok.1)
-few_bytes (ragged w q) ok vs h p = p.1
+few_bytes (ragged w q) ok vs h p = p.1.0
+
+-- what was read can be written
+fit_carried : (f : Form) (vs us : List Value) → Fit f vs → length (joined us) ≤ length (joined vs) → Carried f us
+fit_carried (fixed k o) vs us p h = tt
+fit_carried (ragged w q) vs us p h = below_carried (ragged w q) us (length (joined vs)) p.1.1 h
 
 module _ (k : Kind) (shape s : List ℕ) where
   -- what decode has passed that gives A
@@ -76,8 +84,10 @@ module _ (k : Kind) (shape s : List ℕ) where
       let few : length (leaves d cs) ≤ most_cells = omega (arith, length-map cs (leaf d), a.counted, sh.few_cells) in
       let g : Good k n cs = record { counted = a.counted; sized = a.fit.0; small = few_bytes f ok.sound (leaves d cs) few a.fit; strict = a.strict } in
       let is : stored_form k n (layout f d cs) ≡ s = stored_layout k n cs g ∙ a.written in
+      let carried : Carried f (values_left k n (layout f d cs)) =
+      subst (λ (xs : List (Cell d)). Carried f (live d xs)) (sym (cells_layout k n cs g.counted g.sized)) (fit_carried f (leaves d cs) (live d cs) a.fit (bytes_live d cs)) in
       subst (λ (c : Content). encode_answer k shape c room ≡ gives s) (same_given r.1.1)
-      (encode_gives k shape (layout f d cs) (laid_valid ok sh g) room (subst (λ (t : List ℕ). length t ≤ room) (sym is) h) ∙ ap gives is)
+      (encode_gives k shape (layout f d cs) (laid_valid ok sh g) carried room (subst (λ (t : List ℕ). length t ≤ room) (sym is) h) ∙ ap gives is)
 
 pub written_again : WrittenAgain
 unfolding encoded decoded

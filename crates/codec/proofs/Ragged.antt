@@ -17,7 +17,6 @@ use Rattle.array.specs.Offsets.{last, Rising}
 use Rattle.array.specs.Content.{RaggedContent}
 use Rattle.array.proofs.Bytes.{length-le, unle-le}
 use Rattle.array.proofs.Lists.{Sized, All-image, All-of, length-joined, pieces-joined}
-use Rattle.array.proofs.Offsets.{rising_below}
 use Rattle.array.proofs.Rules.{rising_test_lem}
 use Rattle.codec.specs.Ragged.{put, part_of, left_of, index_of, put_ragged, get_ragged, check_ragged}
 
@@ -58,7 +57,7 @@ pub check_gives : (os s : List ℕ) → last os ≡ length s → Rising os → l
 check_gives os s e p h = rw (eq-eqb (last os) (length s) e, rising_test_lem os p, le-leb (last os) most_bytes h)
 
 -- for any width in which the offsets fit
-pub back_ragged : (w : ℕ) (p : Place) (c : RaggedContent) (n : ℕ) → most_bytes < 256 ^ w → length c.offsets ≡ suc n → Rising c.offsets
+pub back_ragged : (w : ℕ) (p : Place) (c : RaggedContent) (n : ℕ) → All (λ o. o < 256 ^ w) c.offsets → length c.offsets ≡ suc n → Rising c.offsets
     → last c.offsets ≡ length c.values → length c.values ≤ most_bytes → length (put_ragged w p c) < 256 ^ 8 → get_ragged w p (put_ragged w p c) n ≡ gives c
 unfolding put_ragged get_ragged
 back_ragged w p c n fit en r e h small =
@@ -72,7 +71,7 @@ back_ragged w p c n fit en r e h small =
     let lb : length body ≡ length index + length s = length_put p index s in
     let lw : length (put p field body) ≡ length field + length body = length_put p field body in
     let eu : unle (part_of p 8 (put p field body)) ≡ length index = ap unle (part-put p field body 8 lf) ∙ unle-le 8 (length index) (omega arith) in
-    let back : map unle (pieces w (suc n) index) ≡ os = ap (λ (k : ℕ). map unle (pieces w k index)) (sym en) ∙ index_back w os (rising_below (256 ^ w) os r (omega arith)) in
+    let back : map unle (pieces w (suc n) index) ≡ os = ap (λ (k : ℕ). map unle (pieces w k index)) (sym en) ∙ index_back w os fit in
     rw (
       le-leb 8 (length (put p field body)) (omega arith),
       eu,

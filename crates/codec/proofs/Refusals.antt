@@ -14,6 +14,7 @@ use Rattle.array.specs.Kind.{Kind, kind_test, Place, Form, fixed, ragged, null_o
 use Rattle.array.specs.Shape.{volume}
 use Rattle.array.specs.Offsets.{last}
 use Rattle.array.specs.Cells.{Strict, strict_test, blank}
+use Rattle.array.specs.Content.{values_in}
 use Rattle.array.specs.Buffers.{lengths_of, ragged_lengths_of}
 use Rattle.array.specs.Refusals.{Rule, InOrder, success}
 use Rattle.array.proofs.Answers.{then_unless, both_tests}
@@ -26,8 +27,9 @@ use Rattle.codec.specs.Frame.{count_set, expand, content_of, read_frame}
 use Rattle.codec.specs.Ragged.{part_of, left_of, check_ragged, open_ragged, get_ragged}
 use Rattle.codec.specs.Values.{get_values}
 use Rattle.codec.specs.Interleaved.{interleaved_cells, InterleavedOk, interleaved_test, IsRagged, ragged_test}
-use Rattle.codec.specs.Calls.{read_in, encode_answer, encoded, decode_answer, decoded, interleaved_answer, interleaved_decoded, encode_interleaved_answer, interleaved_encoded}
+use Rattle.codec.specs.Calls.{values_left, read_in, encode_answer, encoded, decode_answer, decoded, interleaved_answer, interleaved_decoded, encode_interleaved_answer, interleaved_encoded}
 use Rattle.codec.specs.Refusals.{data_rules, index_rules, ragged_rules, value_rules, mask_rules, content_rules, frame_rules, cell_rules, Refusals}
+use Rattle.codec.proofs.Carried.{carried_test_lem, carried_ok, fields_test_lem, fields_ok}
 
 -- ---- stored bytes
 
@@ -127,7 +129,8 @@ refusals = record {
       (stage 1 (kind_test_lem k) (kind_ok k)
       (stage 2 (shape_test_lem shape) (shape_ok shape)
       (stage_array k (volume shape) c
-      (stage_le 6 _ _ success))));
+      (stage 20 (carried_test_lem k.form (values_left k (volume shape) c)) (carried_ok k.form (values_left k (volume shape) c))
+      (stage_le 6 _ _ success)))));
   decode = λ k shape s out. named lengths_of
       (stage 1 (kind_test_lem k) (kind_ok k)
       (stage 2 (shape_test_lem shape) (shape_ok shape)
@@ -142,5 +145,6 @@ refusals = record {
       (stage 1 (interleaved_test_lem k) (interleaved_ok k)
       (stage 2 (shape_test_lem shape) (shape_ok shape)
       (stage_array k (volume shape) c
-      (stage_le 6 _ _ success))));
+      (stage 20 (fields_test_lem (values_in k.form (volume shape) c)) (fields_ok (values_in k.form (volume shape) c))
+      (stage_le 6 _ _ success)))));
 }

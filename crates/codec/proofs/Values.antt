@@ -7,7 +7,6 @@ use native.Mathlib.Nat.{zero-add}
 use native.Mathlib.Omega.{arith}
 use mathlib.Core.List.{List, [], ◌∷◌, map, reverse-reverse}
 use lib.ListN.{length, length-append, length-map}
-use lib.Dec.{lit<}
 use borrow.Author.Tests.{eq-eqb}
 use Rattle.array.specs.Answer.{Answer, gives, and_then}
 use Rattle.array.specs.Limits.{most_bytes}
@@ -22,6 +21,7 @@ use Rattle.array.proofs.Lists.{Sized, All-map, All-image, length-joined, pieces-
 use Rattle.array.proofs.Offsets.{length-ends, rising_ends, last-ends, slices_offsets}
 use Rattle.array.proofs.Sizes.{SizedAs, length-ordered}
 use Rattle.codec.specs.Ragged.{put, index_of, put_ragged, get_ragged}
+use Rattle.codec.specs.Carried.{Carried}
 use Rattle.codec.specs.Values.{put_values, get_values}
 use Rattle.codec.specs.Length.{ragged_length, values_length}
 use Rattle.codec.proofs.Ragged.{length_put, length_index, back_ragged}
@@ -43,29 +43,24 @@ length-joined-ordered o (v ∷ vs) =
 pub sized-ordered : (k : ℕ) (o : Order) (vs : List Value) → Sized k vs → Sized k (map (ordered o) vs)
 sized-ordered k o vs p = All-image (λ v. length v ≡ k) (ordered o) vs (All-map (λ v. length v ≡ k) (λ v. length (ordered o v) ≡ k) (λ v e. length-ordered o v ∙ e) vs p)
 
-pub fits_width : (w : ℕ) → (w ≡ 4) ⊎ (w ≡ 8) → most_bytes < 256 ^ w
-unfolding most_bytes
-fits_width w (inl e) = rw e (lit< tt)
-fits_width w (inr e) = rw e (lit< tt)
-
 -- the ragged content of values that lie end to end from offset 0
-pub back_offsets : (w : ℕ) (p : Place) → (w ≡ 4) ⊎ (w ≡ 8) → (vs : List Value) → length (joined vs) ≤ most_bytes
+pub back_offsets : (w : ℕ) (p : Place) (vs : List Value) → Carried (ragged w p) vs → length (joined vs) ≤ most_bytes
     → length (put_ragged w p (end_to_end vs)) < 256 ^ 8 → get_ragged w p (put_ragged w p (end_to_end vs)) (length vs) ≡ gives (end_to_end vs)
-back_offsets w p ok vs g h =
-    back_ragged w p (end_to_end vs) (length vs) (fits_width w ok) (ap suc (length-ends 0 vs)) (refl, rising_ends 0 vs)
+back_offsets w p vs c g h =
+    back_ragged w p (end_to_end vs) (length vs) c (ap suc (length-ends 0 vs)) (refl, rising_ends 0 vs)
     (last-ends 0 vs ∙ zero-add (length (joined vs))) g h
 
-pub back_values : (f : Form) → FormOk f → (vs : List Value) → SizedAs f vs × (length (joined vs) ≤ most_bytes)
+pub back_values : (f : Form) (vs : List Value) → SizedAs f vs × (length (joined vs) ≤ most_bytes) × Carried f vs
     → length (put_values f vs) < 256 ^ 8 → get_values f (put_values f vs) (length vs) ≡ gives vs
 unfolding put_values get_values
-back_values (fixed k o) ok vs g h =
+back_values (fixed k o) vs g h =
     let us : List Value = map (ordered o) vs in
     let su : Sized k us = sized-ordered k o vs g.0 in
     let ln : length us ≡ length vs = length-map vs (ordered o) in
     let whole : pieces k (length vs) (joined us) ≡ us = ap (λ (n : ℕ). pieces k n (joined us)) (sym ln) ∙ pieces-joined k us su in
     rw (eq-eqb (length (joined us)) (length vs * k) (length-joined k us su ∙ ap (λ (n : ℕ). n * k) ln), whole, ordered_twice o vs)
-back_values (ragged w p) ok vs g h =
-    ap (λ (a : Answer RaggedContent). and_then a (λ x. gives (slices x.offsets x.values))) (back_offsets w p ok vs g.1 h)
+back_values (ragged w p) vs g h =
+    ap (λ (a : Answer RaggedContent). and_then a (λ x. gives (slices x.offsets x.values))) (back_offsets w p vs g.2 g.1 h)
     ∙ ap gives (slices_offsets vs)
 
 -- ---- how long values are when they are written

@@ -1,7 +1,7 @@
 -- Masks and values that are read: they keep the rules, and written they are the same stored bytes.
 -- Assumes nothing.
 use mathlib.Core.Path.{◌≡◌, refl, sym, ap, ap₂, ◌∙◌, subst}
-use Prim.Native.Nat.{ℕ, ◌-◌, ◌*◌, ◌<◌, ◌≤◌}
+use Prim.Native.Nat.{ℕ, ◌-◌, ◌*◌, ◌^◌, ◌<◌, ◌≤◌}
 use native.Mathlib.Nat.{zero-lt-suc}
 use native.Mathlib.Omega.{arith}
 use mathlib.Core.Bool.{true}
@@ -29,7 +29,7 @@ use Rattle.codec.specs.Ragged.{put_ragged, get_ragged}
 use Rattle.codec.specs.Values.{put_values, get_values}
 use Rattle.codec.proofs.Masks.{Bits, sized-digits, length_bits, bits_strict, zeros_of}
 use Rattle.codec.proofs.Values.{ordered_twice, sized-ordered}
-use Rattle.codec.proofs.Accepted.{ragged_ok, ragged_again}
+use Rattle.codec.proofs.Accepted.{ragged_ok, read_fits, ragged_again}
 use Rattle.codec.proofs.Flat.{again}
 
 -- ---- masks
@@ -75,10 +75,10 @@ mask_again as_bits n s b l e =
 
 -- ---- values
 
--- of the form's size, and few bytes where the form does not say how many
+-- of the form's size, and where the form does not say how many bytes, few, and no more than the width carries
 abbrev Few : Form → List Value → Type 0
 Few (fixed k o) vs = Unit {0}
-Few (ragged w p) vs = length (joined vs) ≤ most_bytes
+Few (ragged w p) vs = (length (joined vs) ≤ most_bytes) × (length (joined vs) < 256 ^ w)
 
 abbrev pub Fit : Form → List Value → Type 0
 Fit f vs = SizedAs f vs × Few f vs
@@ -108,6 +108,9 @@ values_again (ragged w p) n s b e =
     let same : end_to_end us ≡ c = again c ok.0 ok.1 ok.2 in
     subst (ValuesAgain (ragged w p) n s) (same_given g.1.1) (record {
       counted = values_length_lem (ragged w p) n (unmasked c) (ok.0, ok.1, ok.2);
-      fit = (All-of (OfSize (ragged w p)) (λ v. tt) us, omega (arith, ap (λ (x : RaggedContent). length x.values) same, ok.3));
+      fit = (
+        All-of (OfSize (ragged w p)) (λ v. tt) us,
+        subst (λ (x : RaggedContent). (length x.values ≤ most_bytes) × (length x.values < 256 ^ w)) (sym same) (ok.3, read_fits w p s n c g.1.0 b),
+      );
       written = ap (put_ragged w p) same ∙ ragged_again w p s n c g.1.0 b;
     })

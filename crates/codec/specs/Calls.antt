@@ -7,13 +7,15 @@ use Rattle.array.specs.Lists.{joined}
 use Rattle.array.specs.Bytes.{unle}
 use Rattle.array.specs.Kind.{Kind, Form, null_of, kind_test}
 use Rattle.array.specs.Shape.{volume, shape_test}
+use Rattle.array.specs.Cells.{Value}
 use Rattle.array.specs.Content.{Content, RaggedContent, end_to_end, layout, cells_of, values_in, size_test, unless_kept}
 use Rattle.array.specs.declared.answer.Lengths.{Lengths}
 use Rattle.array.specs.declared.answer.RaggedLengths.{RaggedLengths}
 use Rattle.array.specs.Buffers.{lengths_of, ragged_lengths_of, enough_test, ragged_enough_test, list_outcome, ragged_outcome, content_outcome, if_room}
 use Rattle.codec.specs.Mask.{MaskForm, mask_form}
-use Rattle.codec.specs.Frame.{frame, read_frame}
+use Rattle.codec.specs.Frame.{frame, read_frame, live}
 use Rattle.codec.specs.Values.{put_values, get_values}
+use Rattle.codec.specs.Carried.{carried_test, fields_test}
 use Rattle.codec.specs.Interleaved.{interleaved_cells, put_interleaved, interleaved_test}
 
 -- ---- encode
@@ -22,13 +24,18 @@ use Rattle.codec.specs.Interleaved.{interleaved_cells, put_interleaved, interlea
 abbrev pub stored_form : Kind → ℕ → Content → List ℕ
 stored_form k n c = frame (mask_form k.masks) (put_values k.form) k.depth (cells_of k n c)
 
+-- the values that it holds: those of the cells whose masks are all set
+abbrev pub values_left : Kind → ℕ → Content → List Value
+values_left k n c = live k.depth (cells_of k n c)
+
 unfoldable pub encode_answer : Kind → List ℕ → Content → ℕ → Answer (List ℕ)
 encode_answer k shape c room =
     let stored = stored_form k (volume shape) c in
     unless (kind_test k) 1
     (unless (shape_test shape) 2
     (unless_kept k (volume shape) c
-    (if_room (leb (length stored) room) stored)))
+    (unless (carried_test k.form (values_left k (volume shape) c)) 20
+    (if_room (leb (length stored) room) stored))))
 
 unfoldable pub encoded : Kind → List ℕ → Content → List ℕ → Outcome ℕ (List ℕ)
 unfolding encode_answer
@@ -80,7 +87,8 @@ encode_interleaved_answer k shape c room =
     unless (interleaved_test k) 1
     (unless (shape_test shape) 2
     (unless_kept k (volume shape) c
-    (if_room (leb (length stored) room) stored)))
+    (unless (fields_test (values_in k.form (volume shape) c)) 20
+    (if_room (leb (length stored) room) stored))))
 
 unfoldable pub interleaved_encoded : Kind → List ℕ → Content → List ℕ → Outcome ℕ (List ℕ)
 unfolding encode_interleaved_answer

@@ -2,6 +2,7 @@ pub mod Mask
 pub mod Frame
 pub mod Ragged
 pub mod Values
+pub mod Carried
 pub mod Length
 pub mod Interleaved
 pub mod Calls
@@ -9,4 +10,6 @@ pub mod Spread
 pub mod Refusals
 pub mod Older
 pub mod OneForm
+pub mod Longer
+pub mod Long
 pub mod MaskAt

@@ -1,5 +1,5 @@
 -- docs/SPEC.md, S8.8: what is written in the older form reads as the array's rest form.
--- Nothing is refused where the outputs are long enough, and the written length is that of S5.5.
+-- Nothing is refused where each cell fits its length field and the outputs are long enough, and the written length is that of S5.5.
 -- Assumes nothing.
 use Rattle.std.specs.Prelude.{ℕ, ◌≤◌, ◌≡◌, List, length}
 use Rattle.array.specs.Answer.{gives}
@@ -7,6 +7,7 @@ use Rattle.array.specs.Kind.{Kind, Masks, Place, ragged}
 use Rattle.array.specs.Shape.{volume}
 use Rattle.array.specs.Content.{Content, RaggedContent, Valid, values_in, rest_form}
 use Rattle.array.specs.Buffers.{ragged_lengths_of, RaggedEnough, list_outcome, ragged_outcome}
+use Rattle.codec.specs.Carried.{FieldsFit}
 use Rattle.codec.specs.Interleaved.{interleaved_length}
 use Rattle.codec.specs.Calls.{interleaved_decoded, interleaved_form, interleaved_encoded}
 
@@ -30,7 +31,7 @@ module _ (k : Kind) (shape : List ℕ) (A : Content) where
 
 abbrev pub OlderReturns : Type 0
 OlderReturns =
-    (x : Masks) (w : ℕ) (p : Place) (shape : List ℕ) (A : Content) → Valid (flat_kind x w p) shape A
+    (x : Masks) (w : ℕ) (p : Place) (shape : List ℕ) (A : Content) → Valid (flat_kind x w p) shape A → FieldsFit (values_in (ragged w p) (volume shape) A)
     → (out : List ℕ) → older_length (flat_kind x w p) shape A ≤ length out
     → (back : RaggedContent) → RaggedEnough (rest_ragged (flat_kind x w p) shape A) (ragged_lengths_of back)
     → OlderWay (flat_kind x w p) shape A out back

@@ -9,14 +9,15 @@ use Rattle.array.specs.Kind.{Kind, KindOk, Place, Form, fixed, ragged, Masks, as
 use Rattle.array.specs.Shape.{volume, ShapeOk}
 use Rattle.array.specs.Offsets.{last, Rising, offsets_of}
 use Rattle.array.specs.Cells.{Strict}
-use Rattle.array.specs.Content.{Content, RaggedContent, ArrayOk}
+use Rattle.array.specs.Content.{Content, RaggedContent, values_in, ArrayOk}
 use Rattle.array.specs.Buffers.{lengths_of, ragged_lengths_of, Enough, RaggedEnough}
 use Rattle.array.specs.Refusals.{Rule, InOrder, Given}
 use Rattle.codec.specs.Mask.{mask_form, bits_of}
 use Rattle.codec.specs.Frame.{count_set}
 use Rattle.codec.specs.Ragged.{part_of, left_of}
+use Rattle.codec.specs.Carried.{Carried, FieldsFit}
 use Rattle.codec.specs.Interleaved.{interleaved_cells, InterleavedOk}
-use Rattle.codec.specs.Calls.{stored_form, read_in, encoded, decoded, interleaved_decoded, interleaved_form, interleaved_encoded}
+use Rattle.codec.specs.Calls.{stored_form, values_left, read_in, encoded, decoded, interleaved_decoded, interleaved_form, interleaved_encoded}
 
 -- ---- stored bytes
 
@@ -68,7 +69,7 @@ cell_rules (suc n) s =
 abbrev pub encode_rules : Kind → List ℕ → Content → List ℕ → List Rule
 encode_rules k shape c out =
     (1, KindOk k) ∷ (2, ShapeOk shape) ∷ (4, ArrayOk k (volume shape) c) ∷ (5, length c.values ≤ most_bytes)
-    ∷ (6, length (stored_form k (volume shape) c) ≤ length out) ∷ []
+    ∷ (20, Carried k.form (values_left k (volume shape) c)) ∷ (6, length (stored_form k (volume shape) c) ≤ length out) ∷ []
 
 abbrev pub decode_rules : Kind → List ℕ → List ℕ → Content → List Rule
 decode_rules k shape s out =
@@ -86,7 +87,7 @@ interleaved_rules n s out =
 abbrev pub encode_interleaved_rules : Kind → List ℕ → Content → List ℕ → List Rule
 encode_interleaved_rules k shape c out =
     (1, InterleavedOk k) ∷ (2, ShapeOk shape) ∷ (4, ArrayOk k (volume shape) c) ∷ (5, length c.values ≤ most_bytes)
-    ∷ (6, length (interleaved_form k (volume shape) c) ≤ length out) ∷ []
+    ∷ (20, FieldsFit (values_in k.form (volume shape) c)) ∷ (6, length (interleaved_form k (volume shape) c) ≤ length out) ∷ []
 
 pub record Refusals : Type 1 where
   pub encode : (k : Kind) (shape : List ℕ) (c : Content) (out : List ℕ) → InOrder (encode_rules k shape c out) (encoded k shape c out).answer

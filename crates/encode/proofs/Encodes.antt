@@ -22,7 +22,8 @@ use Rattle.array.specs.Content.{Content, unless_kept}
 use Rattle.valid.proofs.CheckLaws.{KeepsRules, check_refused, check_passed, check_valid}
 use Rattle.array.proofs.Rules.{kind_ok}
 use Rattle.valid.proofs.ShapeLaws.{Counted, counted, not_counted}
-use Rattle.codec.specs.Calls.{stored_form, encode_answer, encoded}
+use Rattle.codec.specs.Carried.{carried_test}
+use Rattle.codec.specs.Calls.{stored_form, values_left, encode_answer, encoded}
 use Rattle.encode_values.specs.Ready.{Encodable}
 use Rattle.encode_values.specs.Stored.{stored_from, length_from}
 use Rattle.encode.proofs.Walk.{stored_by}
@@ -33,7 +34,7 @@ use Rattle.encode_values.proofs.Forms.{encodable_measured}
 abbrev pub refused : ℕ → List ℕ → Outcome ℕ (List ℕ)
 refused number out = record { answer = refuses number; buffers = out }
 
--- ---- refusals 1 to 5
+-- ---- refusals 1 to 5, and 20
 
 module _ (k : Kind) (shape : List ℕ) (c : Content) (out : List ℕ) where
   pub encode_kind : kind_test k ≡ false → refused 1 out ≡ encoded k shape c out
@@ -48,7 +49,7 @@ module _ (k : Kind) (shape : List ℕ) (c : Content) (out : List ℕ) where
     module _ {n : ℕ} (q : gives n ≡ shape_answer shape) (r : Result (Unit {0}) Refusal) (f : told r ≡ check_of k n c) where
       -- the rest, once kind and shape have passed
       whole : ℕ → Answer (List ℕ)
-      whole m = unless (leb (length (stored_form k m c)) (length out)) 6 (gives (stored_form k m c))
+      whole m = unless (carried_test k.form (values_left k m c)) 20 (unless (leb (length (stored_form k m c)) (length out)) 6 (gives (stored_form k m c)))
 
       pub encode_content : {number : Refusal} → r ≡ Err number → refused (number_of number) out ≡ encoded k shape c out
       unfolding encoded encode_answer whole
@@ -65,13 +66,22 @@ module _ (k : Kind) (shape : List ℕ) (c : Content) (out : List ℕ) where
           let h : KeepsRules k n c = check_valid k n c r f e in
           record { kind = kind_ok k p; some = s.some; few = s.few; content = h.array.fits; small = h.small }
 
-      pub encode_rest : r ≡ Ok tt → put_list (stored_form k n c) out ≡ encoded k shape c out
+      -- what array's rules pass
+      past : r ≡ Ok tt → list_outcome (whole n) out ≡ encoded k shape c out
       unfolding encoded encode_answer whole
-      encode_rest e =
+      past e =
           let s : Counted shape n = counted shape n q in
           sym
           (rw (p, s.passes) (ap (λ (a : Answer (List ℕ)). list_outcome a out)
           (ap (λ (m : ℕ). unless_kept k m c (whole m)) (sym s.is) ∙ check_passed k n c r f e (whole n))))
+
+      pub encode_field : r ≡ Ok tt → false ≡ carried_test k.form (values_left k n c) → refused 20 out ≡ encoded k shape c out
+      unfolding whole
+      encode_field e t = ap (λ (b : Bool). list_outcome (unless b 20 (unless (leb (length (stored_form k n c)) (length out)) 6 (gives (stored_form k n c)))) out) t ∙ past e
+
+      pub encode_rest : r ≡ Ok tt → true ≡ carried_test k.form (values_left k n c) → put_list (stored_form k n c) out ≡ encoded k shape c out
+      unfolding whole
+      encode_rest e t = ap (λ (b : Bool). list_outcome (unless b 20 (unless (leb (length (stored_form k n c)) (length out)) 6 (gives (stored_form k n c)))) out) t ∙ past e
 
 -- ---- refusal 6, or the stored form
 

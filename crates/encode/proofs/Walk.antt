@@ -1,7 +1,7 @@
 -- The stored form by the numbers of the cells.
 -- Assumes nothing.
 use mathlib.Core.Path.{◌≡◌, refl, sym, ap, ap₂, ◌∙◌}
-use Prim.Native.Nat.{ℕ, zero, suc, ◌≤◌}
+use Prim.Native.Nat.{ℕ, zero, suc, ◌+◌, ◌≤◌}
 use native.Mathlib.Omega.{arith}
 use mathlib.Core.Bool.{Bool, true, false, ◌&&◌}
 use mathlib.Core.List.{List, [], ◌∷◌, map}
@@ -14,9 +14,9 @@ use Rattle.array.proofs.Lists.{map-map}
 use Rattle.array.proofs.LayoutLaws.{mask_map}
 use Rattle.array.proofs.Numbered.{cells_are}
 use Rattle.codec.specs.Mask.{mask_form}
-use Rattle.codec.specs.Frame.{keep, wrap, unless_none, frame}
+use Rattle.codec.specs.Frame.{keep, wrap, unless_none, frame, live}
 use Rattle.codec.specs.Values.{put_values}
-use Rattle.codec.specs.Calls.{stored_form}
+use Rattle.codec.specs.Calls.{stored_form, values_left}
 use Rattle.live_cells.specs.Live.{live_at}
 use Rattle.live_cells.proofs.Runs.{live_all}
 use Rattle.encode_values.specs.Stored.{level_of, stored_from}
@@ -44,6 +44,22 @@ module _ (n : ℕ) (masks : List ℕ) (val : ℕ → Value) where
       go true (suc zero) q e = rw q (ap (λ (r : List (Cell d)). inner d (suc l) j ∷ r) e)
       go true (suc (suc m)) q e = rw q e
       go false m q e = e
+
+  -- the cells that are left below all levels, and their values
+  left_at : (d l : ℕ) (js : List ℕ) → live d (map (inner d l) (passing (shown_at n masks l) js)) ≡ map val (passing (shown_at n masks (d + l)) js)
+  left_at zero l js = let e : l ≡ 0 + l = omega arith in ap (λ (m : ℕ). map val (passing (shown_at n masks m) js)) e
+  left_at (suc d) l js =
+      let e : d + suc l ≡ suc d + l = omega arith in
+      ap (live d) (keep_at d l js) ∙ left_at d (suc l) js ∙ ap (λ (m : ℕ). map val (passing (shown_at n masks m) js)) e
+
+-- the values that are written
+pub left_by : {k : Kind} {n : ℕ} {c : Content} → ContentOk k n c → values_left k n c ≡ map (value_in k.form c) (live_at n c.masks k.depth)
+left_by {k} {n} {c} ok =
+    let z : k.depth + 0 ≡ k.depth = omega arith in
+    ap (live k.depth) (cells_are ok)
+    ∙ ap (λ (is : List ℕ). live k.depth (map (inner n c.masks (value_in k.form c) k.depth 0) is)) (sym (live_all n c.masks))
+    ∙ left_at n c.masks (value_in k.form c) k.depth 0 (from 0 n)
+    ∙ ap (λ (l : ℕ). map (value_in k.form c) (live_at n c.masks l)) z
 
 -- a content with so many levels left is the frame of the cells that the level counts
 module _ (k : Kind) (n : ℕ) (c : Content) where

@@ -1,2 +1,3 @@
 pub mod Storing
+pub mod Fitting
 pub mod Writes

@@ -26,14 +26,14 @@ use Rattle.interleaved_cells.proofs.Placing.{Placing, placing_begins, placing_is
 -- ---- the offsets begin at 0
 
 module _ {n : ℕ} {s os : List ℕ} (h : Held n s os) where
-  from_zero : os ≡ 0 ∷ drop 1 os
+  pub from_zero : os ≡ 0 ∷ drop 1 os
   from_zero = go os h.counted h.rising
     where
       go : (os : List ℕ) → length os ≡ suc n → Rising os → os ≡ 0 ∷ drop 1 os
       go [] e r = absurd (omega arith)
       go (a ∷ bs) e r = ap (λ (x : ℕ). x ∷ bs) r.0
 
-  cells_are : slices os s ≡ slices_from 0 (drop 1 os) s
+  pub cells_are : slices os s ≡ slices_from 0 (drop 1 os) s
   cells_are = ap (λ (l : List ℕ). slices l s) from_zero
 
   cells_counted : length (slices os s) ≡ n
@@ -46,7 +46,7 @@ module _ {n : ℕ} {s os : List ℕ} (h : Held n s os) where
 -- ---- the loop, by the offsets behind the first
 
 module _ {n : ℕ} (os : List ℕ) (e : length os ≡ suc n) where
-  behind_are : take (length os - 1) (drop 1 os) ≡ drop 1 os
+  pub behind_are : take (length os - 1) (drop 1 os) ≡ drop 1 os
   behind_are = take_all (length os - 1) (drop 1 os) (omega (arith, length-drop 1 os))
 
   pub turns_are : length (take (length os - 1) (drop 1 os)) ≡ n

@@ -4,16 +4,21 @@ ghost use Rattle.std.specs.Prelude.{◌≡◌, ◌≤◌, length, true, [], ◌�
 ghost use Rattle.array.specs.Limits.{most_bytes, most_cells};
 ghost use Rattle.array.specs.Meaning.{kind_of, lent};
 ghost use Rattle.array.specs.Outcome.{outcome};
-ghost use Rattle.array.specs.Buffers.{over, put_list};
-ghost use Rattle.codec.specs.Interleaved.{put_interleaved, interleaved_test};
+ghost use Rattle.array.specs.Buffers.{over};
+ghost use Rattle.array.specs.Offsets.{RisingFrom, slices};
+ghost use Rattle.codec.specs.Carried.{fields_test};
+ghost use Rattle.codec.specs.Interleaved.{interleaved_test};
 ghost use Rattle.codec.specs.Calls.{interleaved_encoded};
-ghost use Rattle.encode_interleaved.specs.Held.{Held, interleaved_of, encoded_cells};
+ghost use Rattle.encode_interleaved.specs.Held.{Held, interleaved_of, steps_fit, put_fitting, encoded_cells};
 
 use array::content::ArrayBytes;
 use array::kind::{Kind, Values};
 use array::refusal::Refusal;
 use buffer::field;
 use valid::{array_bytes, shape};
+
+// A length that a field of 4 bytes holds at most.
+const MOST_FIELD: usize = 4294967295;
 
 // Whether arrays of this kind have an interleaved form: ragged values with no mask. Width, place and mask form say nothing of it.
 fn is_interleaved(kind: Kind) -> bool
@@ -45,7 +50,33 @@ fn put_cells(out: &mut [u8], values: &[u8], offsets: &[u64], cells: usize)
     }
 }
 
-// The cells of a valid array: refusal 6, or their interleaved form.
+// Whether each cell's length fits its field, by where the cells end. The first begins at 0.
+fn lengths_fit(ends: &[u64]) -> bool
+    requires { RisingFrom 0 ends.now }
+    ensures { result ≡ steps_fit 0 ends.now }
+{
+    let mut start: u64 = 0;
+    for end in ends {
+        if *end - start > MOST_FIELD as u64 {
+            return false;
+        }
+        start = *end;
+    }
+    true
+}
+
+// The same of the cells of a valid array: where it has no more bytes than a field holds, no cell has.
+fn fields_fit(cells: usize, values: &[u8], offsets: &[u64]) -> bool
+    requires { Held cells values.now offsets.now }
+    ensures { result ≡ fields_test (slices offsets.now values.now) }
+{
+    if values.len() <= MOST_FIELD {
+        return true;
+    }
+    lengths_fit(&offsets[1..])
+}
+
+// The cells of a valid array: refusals 20 and 6, or their interleaved form.
 fn write_cells(
     cells: usize,
     values: &[u8],
@@ -53,8 +84,11 @@ fn write_cells(
     out: &mut [u8],
 ) -> Result<usize, Refusal>
     requires { Held cells values.now offsets.now }
-    ensures { outcome result out.new ≡ put_list (interleaved_of values.now offsets.now) out.old }
+    ensures { outcome result out.new ≡ put_fitting (slices offsets.now values.now) out.old }
 {
+    if !fields_fit(cells, values, offsets) {
+        return Err(Refusal::Field);
+    }
     let need = 4 + 4 * cells + values.len();
     if out.len() < need {
         return Err(Refusal::Output);
@@ -67,9 +101,12 @@ fn write_cells(
 #[tactic(auto, using(crate::proofs::Writes::one_laws))]
 fn write_one(values: &[u8], out: &mut [u8]) -> Result<usize, Refusal>
     requires { length values.now ≤ most_bytes }
-    ensures { outcome result out.new ≡ put_list (put_interleaved (values.now ∷ [])) out.old }
+    ensures { outcome result out.new ≡ put_fitting (values.now ∷ []) out.old }
 {
     let size = values.len();
+    if size > MOST_FIELD {
+        return Err(Refusal::Field);
+    }
     let need = 8 + size;
     if out.len() < need {
         return Err(Refusal::Output);
@@ -82,7 +119,7 @@ fn write_one(values: &[u8], out: &mut [u8]) -> Result<usize, Refusal>
     Ok(need)
 }
 
-// Kind and shape are sound: refusals 4, 5 and 6, or the form.
+// Kind and shape are sound: refusals 4, 5, 20 and 6, or the form.
 fn encode_cells(
     kind: Kind,
     cells: usize,
@@ -105,7 +142,7 @@ fn encode_one(kind: Kind, array: ArrayBytes, out: &mut [u8]) -> Result<usize, Re
     write_one(array.values, out)
 }
 
-// Writes a ragged array of depth 0 in the interleaved form. Refusals 1, 2, 4, 5 and 6, in this order; nothing is stored before the
+// Writes a ragged array of depth 0 in the interleaved form. Refusals 1, 2, 4, 5, 20 and 6, in this order; nothing is stored before the
 // last check.
 #[tactic(auto, using(crate::proofs::Writes::call_laws), unfolding(array::specs::Limits::most_cells))]
 pub fn encode_interleaved(

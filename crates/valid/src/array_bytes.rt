@@ -13,7 +13,7 @@ use array::kind::{Kind, Values};
 use array::refusal::Refusal;
 
 // Value bytes of an array at most.
-pub const MOST_BYTES: usize = 16777216;
+pub const MOST_BYTES: usize = 8589934592;
 
 // Whether none of four steps falls.
 fn four_rise(a: u64, b: u64, c: u64, d: u64, e: u64) -> bool

@@ -6,9 +6,8 @@ use native.Mathlib.Omega.{arith}
 use Rattle.std.specs.Prelude.{Ok, Err}
 use Rattle.std.proofs.lemmas.Result.{err_from_is_err_and}
 use Rattle.array.specs.Limits.{most_cells}
-use Rattle.array.specs.Buffers.{put_list}
 use Rattle.array.specs.Cells.{Value}
-use Rattle.codec.specs.Interleaved.{put_interleaved}
+use Rattle.encode_interleaved.specs.Held.{put_fitting}
 use Rattle.encode_interleaved.proofs.Storing.{one_cell}
 use Rattle.array.specs.Meaning.{kind_of, lent}
 use Rattle.encode_interleaved.proofs.Writes.{write_content, write_held, write_rest}
@@ -32,5 +31,5 @@ returns c =
     let content = lent a.array in
     let held = write_held (kind_of a.kind) 1 content a.out.now {r = Ok tt} c.in_ok-check_array.ensures c.requires refl (omega arith) in
     c.write_one.ensures
-    ∙ ap (λ (vs : List Value). put_list (put_interleaved vs) a.out.now) (one_cell held)
+    ∙ ap (λ (vs : List Value). put_fitting vs a.out.now) (one_cell held)
     ∙ write_rest (kind_of a.kind) 1 content a.out.now {r = Ok tt} c.in_ok-check_array.ensures c.requires refl
