@@ -60,6 +60,11 @@ module _ {A : Type 0} where
   All-get_or P z q (x ∷ xs) p zero = p.0
   All-get_or P z q (x ∷ xs) p (suc i) = All-get_or P z q xs p.1 i
 
+  pub All-at : (P : A → Type 0) (z : A) (xs : List A) → All P xs → (i : ℕ) → i < length xs → P (get_or xs i z)
+  All-at P z [] p i h = absurd (omega arith)
+  All-at P z (x ∷ xs) p zero h = p.0
+  All-at P z (x ∷ xs) p (suc i) h = All-at P z xs p.1 i (omega arith)
+
   pub All-of : (P : A → Type 0) → ((a : A) → P a) → (xs : List A) → All P xs
   All-of P f [] = tt
   All-of P f (x ∷ xs) = (f x, All-of P f xs)

@@ -20,7 +20,7 @@ use Rattle.array.proofs.Rules.{both, left_of_lem, right_of}
 use Rattle.codec.specs.Mask.{mask_form}
 use Rattle.codec.specs.Frame.{count_set}
 use Rattle.codec.specs.Calls.{encode_answer, encoded, decode_answer, decoded, interleaved_answer, interleaved_decoded, encode_interleaved_answer, interleaved_encoded}
-use Rattle.codec.specs.Refusals.{mask_rules, content_rules, frame_rules, cell_rules}
+use Rattle.codec.specs.Refusals.{mask_rules, content_rules, frame_rules, cell_rules, older_rules}
 use Rattle.codec.proofs.Refusals as codec
 use Rattle.load.specs.Calls.{generate_answer, generated}
 use Rattle.load.proofs.Refusals as load
@@ -43,11 +43,11 @@ use Rattle.chunks.proofs.Refusals as chunks
 
 -- ---- the numbers of rules stand in the list
 
-abbrev numbered : List ℕ → List Rule → Bool
+abbrev pub numbered : List ℕ → List Rule → Bool
 numbered ns [] = true
 numbered ns (r ∷ rs) = listed ns r.0 && numbered ns rs
 
-numbered_append : (ns : List ℕ) (rs ss : List Rule) → numbered ns rs ≡ true → numbered ns ss ≡ true → numbered ns (rs ++ ss) ≡ true
+pub numbered_append : (ns : List ℕ) (rs ss : List Rule) → numbered ns rs ≡ true → numbered ns ss ≡ true → numbered ns (rs ++ ss) ≡ true
 numbered_append ns [] ss p q = q
 numbered_append ns (r ∷ rs) ss p q =
     both (left_of_lem (listed ns r.0) (numbered ns rs) p) (numbered_append ns rs ss (right_of (listed ns r.0) (numbered ns rs) p) q)
@@ -80,11 +80,11 @@ chunk_numbered k (b ∷ bs) c = chunk_numbered k bs (later_chunks k (volume (len
 
 -- ---- an answer that goes by such rules, and the buffers that each form of an outcome leaves
 
-abbrev AnswersIn : {A : Type 0} → List ℕ → Answer A → Type 0
+abbrev pub AnswersIn : {A : Type 0} → List ℕ → Answer A → Type 0
 AnswersIn ns (gives x) = Unit {0}
 AnswersIn ns (refuses k) = listed ns k ≡ true
 
-answers_in : {A : Type 0} {rs : List Rule} {a : Answer A} (ns : List ℕ) → InOrder rs a → numbered ns rs ≡ true → AnswersIn ns a
+pub answers_in : {A : Type 0} {rs : List Rule} {a : Answer A} (ns : List ℕ) → InOrder rs a → numbered ns rs ≡ true → AnswersIn ns a
 answers_in ns success n = tt
 answers_in ns (broken {k} {P} {rs} no-P) n = left_of_lem (listed ns k) (numbered ns rs) n
 answers_in ns (kept {k} {P} {rs} p h) n = answers_in ns h (right_of (listed ns k) (numbered ns rs) n)
@@ -94,7 +94,7 @@ module _ {rs : List Rule} (ns : List ℕ) where
   list_answered (gives s) old h n = tt
   list_answered (refuses k) old h n = (answers_in ns h n, refl)
 
-  ragged_answered : (a : Answer RaggedContent) (old : RaggedContent) → InOrder rs (ragged_outcome a old).answer → numbered ns rs ≡ true → Answered ns old (ragged_outcome a old)
+  pub ragged_answered : (a : Answer RaggedContent) (old : RaggedContent) → InOrder rs (ragged_outcome a old).answer → numbered ns rs ≡ true → Answered ns old (ragged_outcome a old)
   ragged_answered (gives c) old h n = tt
   ragged_answered (refuses k) old h n = (answers_in ns h n, refl)
 
@@ -130,7 +130,7 @@ demand1 = record {
   decode = λ k shape s out. content_answered decode_numbers (decode_answer k shape s (lengths_of out)) out ((codec.refusals).decode k shape s out)
       (numbered_append decode_numbers (frame_rules k.masks k.form k.depth s (volume shape)) _ (frame_numbered k.masks k.form k.depth s (volume shape)) refl);
   decode_interleaved = λ n s out. ragged_answered interleaved_numbers (interleaved_answer n s (ragged_lengths_of out)) out ((codec.refusals).decode_interleaved n s out)
-      (numbered_append interleaved_numbers (cell_rules n (drop 4 s)) _ (cell_numbered n (drop 4 s)) refl);
+      (numbered_append interleaved_numbers (older_rules n s) _ (numbered_append interleaved_numbers (cell_rules n (drop 4 s)) _ (cell_numbered n (drop 4 s)) refl) refl);
   encode_interleaved = λ k shape c out. list_answered encode_interleaved_numbers (encode_interleaved_answer k shape c (length out)) out ((codec.refusals).encode_interleaved k shape c out) refl;
   extract = λ k shape ns c out. content_answered extract_numbers (extract_answer k shape ns c (lengths_of out)) out ((chunks.refusals).extract k shape ns c out) refl;
   merge = λ k shape ns c out. content_answered merge_numbers (merge_answer k shape ns c (lengths_of out)) out ((chunks.refusals).merge k shape ns c out)

@@ -2,7 +2,7 @@
 -- Assumes nothing.
 use mathlib.Core.Path.{◌≡◌, refl, sym, ap, ◌∙◌}
 use Prim.Native.Nat.{ℕ, zero, suc, ◌+◌, ◌<◌, ◌≤◌}
-use native.Mathlib.Nat.{not-suc-le-zero}
+use native.Mathlib.Nat.{not-suc-le-zero, zero-add}
 use native.Mathlib.Omega.{arith}
 use mathlib.Core.Bool.{Bool, true, false}
 use mathlib.Core.List.{List, [], ◌∷◌, map}
@@ -10,8 +10,8 @@ use lib.ListN.{length, get_or, get_or-map}
 use lib.Dec.{eqb}
 use lib.Arith.{lt_of_le-ne}
 use borrow.Author.Tests.{eq-eqb, eqb-true, eqb-false}
-use Rattle.array.specs.Lists.{from, pick, every, count}
-use Rattle.array.proofs.Lists.{map-map, map_cong, map-from, in_place_lem}
+use Rattle.array.specs.Lists.{from, pick, All, every, count}
+use Rattle.array.proofs.Lists.{map-map, map_cong, map-from, in_place_lem, at_from, All-at}
 use Rattle.array.proofs.Rules.{both, left_of_lem, right_of}
 use Rattle.chunks.specs.Gather.{gather, lookup, put_back, Once, once_test}
 
@@ -36,6 +36,35 @@ module _ {A : Type 0} where
       map-from (λ i. lookup z i js (gather z xs js)) (λ i. get_or xs i z) 0 (length xs)
       (λ i h. lookup-map z (λ j. get_or xs j z) i js (omega (arith, o i (omega arith))))
       ∙ gather_all z xs
+
+-- ---- the element at a place that stands once in the list
+
+count_some : (js : List ℕ) (i : ℕ) → i < length js → 0 < count (get_or js i 0) js
+count_some [] i h = absurd (omega arith)
+count_some (j ∷ js) zero h = rw (eq-eqb j j refl) (omega arith)
+count_some (j ∷ js) (suc i) h = go (eqb (get_or js i 0) j) (count_some js i (omega arith))
+  where
+    go : (b : Bool) → 0 < count (get_or js i 0) js → 0 < pick b (suc (count (get_or js i 0) js)) (count (get_or js i 0) js)
+    go true p = omega arith
+    go false p = p
+
+pub lookup_at : {A : Type 0} (z : A) (js : List ℕ) (xs : List A) (i : ℕ) → length js ≡ length xs → i < length js → count (get_or js i 0) js ≡ 1 → lookup z (get_or js i 0) js xs ≡ get_or xs i z
+lookup_at z [] xs i e h o = absurd (omega arith)
+lookup_at z (j ∷ js) [] i e h o = absurd (omega arith)
+lookup_at z (j ∷ js) (x ∷ xs) zero e h o = rw (eq-eqb j j refl)
+lookup_at {A} z (j ∷ js) (x ∷ xs) (suc i) e h o = go (eqb (get_or js i 0) j) (lookup_at z js xs i (omega arith) (omega arith)) o
+  where
+    go : (b : Bool) → (count (get_or js i 0) js ≡ 1 → lookup z (get_or js i 0) js xs ≡ get_or xs i z) → pick b (suc (count (get_or js i 0) js)) (count (get_or js i 0) js) ≡ 1
+        → pick b x (lookup z (get_or js i 0) js xs) ≡ get_or xs i z
+    go true ih o = absurd (omega (arith, count_some js i (omega arith)))
+    go false ih o = ih o
+
+-- and of what was put back
+module _ (n : ℕ) (js : List ℕ) (a : All (λ j. j < n) js) (once : Once n js) where
+  pub put_back_at : {A : Type 0} (z : A) (xs : List A) (i : ℕ) → length js ≡ length xs → i < length js → get_or (put_back z n js xs) (get_or js i 0) z ≡ get_or xs i z
+  put_back_at z xs i e h =
+      let l : get_or js i 0 < n = All-at (λ j. j < n) 0 js a i h in
+      at_from z (λ k. lookup z k js xs) n 0 (get_or js i 0) l ∙ ap (λ k. lookup z k js xs) (zero-add (get_or js i 0)) ∙ lookup_at z js xs i e h (once (get_or js i 0) l)
 
 -- cutting commutes with what is done to each element
 pub gather-map : {A B : Type 0} (f : A → B) (z : A) (xs : List A) (js : List ℕ) → gather (f z) (map f xs) js ≡ map f (gather z xs js)

@@ -7,7 +7,7 @@ use Rattle.array.specs.Calls.{reverse_answer, endianness_reversed, cells_answer,
 use Rattle.codec.specs.Frame.{wrap, frame, read_frame}
 use Rattle.codec.specs.Ragged.{put_ragged, get_ragged}
 use Rattle.codec.specs.Values.{put_values, get_values}
-use Rattle.codec.specs.Interleaved.{interleaved_cells, put_cells, put_interleaved}
+use Rattle.codec.specs.Interleaved.{interleaved_cells, interleaved_values, put_cells, put_interleaved}
 use Rattle.codec.specs.Calls.{encode_answer, encoded, read_in, decode_answer, decoded, interleaved_answer, interleaved_decoded, encode_interleaved_answer, interleaved_encoded}
 use Rattle.chunks.specs.Chunks.{chunk_cells}
 use Rattle.chunks.specs.Calls.{extract_answer, extracted, merge_answer, merged}
@@ -15,8 +15,8 @@ use Rattle.chunks.specs.Lines.{Lines}
 
 pub lines : Lines
 unfolding most_bytes most_cells le unle reverse_answer endianness_reversed cells_answer subset_cells wrap frame read_frame put_ragged get_ragged put_values get_values interleaved_cells
-    encode_answer encoded read_in decode_answer decoded interleaved_answer interleaved_decoded put_cells put_interleaved encode_interleaved_answer interleaved_encoded extract_answer extracted
-    chunk_cells merge_answer merged
+    interleaved_values encode_answer encoded read_in decode_answer decoded interleaved_answer interleaved_decoded put_cells put_interleaved encode_interleaved_answer
+    interleaved_encoded extract_answer extracted chunk_cells merge_answer merged
 lines = record {
   writes_23 = refl;
   reads_23 = refl;

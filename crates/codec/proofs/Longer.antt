@@ -18,10 +18,10 @@ use Rattle.array.specs.Kind.{Kind, Place, Form, fixed, ragged, FormOk, null_of, 
 use Rattle.array.specs.Shape.{volume, shape_test}
 use Rattle.array.specs.Offsets.{last, rising_test}
 use Rattle.array.specs.Cells.{Value, Cell}
-use Rattle.array.specs.Content.{Content, RaggedContent, end_to_end, layout, values_in, array_test}
+use Rattle.array.specs.Content.{Content, RaggedContent, layout, values_in, array_test}
 use Rattle.array.specs.declared.answer.Lengths.{Lengths}
 use Rattle.array.specs.declared.answer.RaggedLengths.{RaggedLengths}
-use Rattle.array.specs.Buffers.{lengths_of, ragged_lengths_of, ragged_enough_test, list_outcome, ragged_outcome, content_outcome, if_room}
+use Rattle.array.specs.Buffers.{lengths_of, ragged_lengths_of, list_outcome, ragged_outcome, content_outcome}
 use Rattle.array.proofs.Answers.{pass}
 use Rattle.array.proofs.Rules.{kind_ok, array_ok}
 use Rattle.array.proofs.LayoutLaws.{values_total}
@@ -30,9 +30,9 @@ use Rattle.codec.specs.Frame.{count_set, content_of, read_frame}
 use Rattle.codec.specs.Ragged.{part_of, left_of, get_ragged}
 use Rattle.codec.specs.Values.{get_values}
 use Rattle.codec.specs.Carried.{Carried}
-use Rattle.codec.specs.Interleaved.{interleaved_cells, interleaved_test, put_interleaved}
+use Rattle.codec.specs.Interleaved.{interleaved_cells, interleaved_values, interleaved_test, put_interleaved}
 use Rattle.codec.specs.Calls.{values_left, read_in, encode_answer, encoded, decode_answer, decoded, interleaved_answer, interleaved_decoded, encode_interleaved_answer, interleaved_encoded}
-use Rattle.codec.specs.Longer.{most_before, get_ragged_at, get_values_at, decode_answer_at, interleaved_answer_at, encode_answer_at, encode_interleaved_answer_at, AsToday, Longer}
+use Rattle.codec.specs.Longer.{most_before, get_ragged_at, get_values_at, decode_answer_at, interleaved_values_at, interleaved_answer_at, encode_answer_at, encode_interleaved_answer_at, AsToday, Longer}
 use Rattle.codec.proofs.Carried.{Below, below_carried, below_fits, carried_test_lem, fields_test_lem}
 use Rattle.codec.proofs.Lengths.{bytes_left}
 
@@ -112,16 +112,19 @@ module _ (m n : ℕ) (l : m ≤ n) where
       same_unless (kind_test k) 1 (same_unless (shape_test shape) 2
       (same_then (and_then (reads m) lay) (and_then (reads n) lay) (same_then (reads m) (reads n) (same_frame (mask_form k.masks) k.form k.depth s (volume shape)) (λ cs. same_self)) (λ c. same_self)))
 
+  same_older_values : (c : ℕ) (s : List ℕ) → Same (interleaved_values_at m c s) (interleaved_values_at n c s)
+  same_older_values c s =
+      let cells : Answer (List Value) = interleaved_cells c (drop 4 s) in
+      same_unless (leb (4 * suc c) (length s)) 7 (same_unless (eqb (unle (take 4 s)) c) 9
+      (same_then cells cells same_self (λ vs. same_size m n (length (joined vs)) {a = gives vs} {b = gives vs} l (λ h. same_self))))
+
   same_interleaved : (c : ℕ) (s : List ℕ) (room : RaggedLengths) → Same (interleaved_answer_at m c s room) (interleaved_answer_at n c s room)
   same_interleaved c s room =
-      let cells : Answer (List Value) = interleaved_cells c (drop 4 s) in
-      let given : List Value → Answer RaggedContent = λ vs. if_room (ragged_enough_test (end_to_end vs) room) (end_to_end vs) in
-      same_unless (leb c most_cells) 2 (same_unless (leb (4 * suc c) (length s)) 7 (same_unless (eqb (unle (take 4 s)) c) 9
-      (same_then cells cells same_self (λ vs. same_size m n (length (joined vs)) {a = given vs} {b = given vs} l (λ h. same_self)))))
+      same_unless (leb c most_cells) 2 (same_then (interleaved_values_at m c s) (interleaved_values_at n c s) (same_older_values c s) (λ vs. same_self))
 
 -- the limit of today
 pub as_today : AsToday
-unfolding unle get_ragged get_values read_in decode_answer decoded interleaved_answer interleaved_decoded
+unfolding unle get_ragged get_values read_in decode_answer decoded interleaved_values interleaved_answer interleaved_decoded
 as_today = record { decode = λ k shape s out. refl; decode_interleaved = λ n s out. refl }
 
 -- ---- writing

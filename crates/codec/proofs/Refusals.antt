@@ -26,9 +26,9 @@ use Rattle.codec.specs.Mask.{get_mask, packed_mask, mask_form, bits_of}
 use Rattle.codec.specs.Frame.{count_set, expand, content_of, read_frame}
 use Rattle.codec.specs.Ragged.{part_of, left_of, check_ragged, open_ragged, get_ragged}
 use Rattle.codec.specs.Values.{get_values}
-use Rattle.codec.specs.Interleaved.{interleaved_cells, InterleavedOk, interleaved_test, IsRagged, ragged_test}
+use Rattle.codec.specs.Interleaved.{interleaved_cells, interleaved_values, InterleavedOk, interleaved_test, IsRagged, ragged_test}
 use Rattle.codec.specs.Calls.{values_left, read_in, encode_answer, encoded, decode_answer, decoded, interleaved_answer, interleaved_decoded, encode_interleaved_answer, interleaved_encoded}
-use Rattle.codec.specs.Refusals.{data_rules, index_rules, ragged_rules, value_rules, mask_rules, content_rules, frame_rules, cell_rules, Refusals}
+use Rattle.codec.specs.Refusals.{data_rules, index_rules, ragged_rules, value_rules, mask_rules, content_rules, frame_rules, cell_rules, older_rules, Refusals}
 use Rattle.codec.proofs.Carried.{carried_test_lem, carried_ok, fields_test_lem, fields_ok}
 
 -- ---- stored bytes
@@ -50,7 +50,7 @@ pub ragged_order : (w : ℕ) (p : Place) (s : List ℕ) (n : ℕ) → InOrder (r
 unfolding get_ragged
 ragged_order w p s n = stage_le 7 _ _ (index_order w p (unle (part_of p 8 s)) (left_of p 8 s) n)
 
-value_order : (f : Form) (s : List ℕ) (n : ℕ) → InOrder (value_rules f s n) (get_values f s n)
+pub value_order : (f : Form) (s : List ℕ) (n : ℕ) → InOrder (value_rules f s n) (get_values f s n)
 unfolding get_values
 value_order (fixed k o) s n = stage_eq 8 _ _ success
 value_order (ragged w p) s n = named _ (ragged_order w p s n)
@@ -98,6 +98,13 @@ unfolding interleaved_cells
 cell_order zero s = success
 cell_order (suc n) s = stage_le 11 _ _ (stage_le 11 _ _ (named _ (cell_order n (drop (unle (take 4 s)) (drop 4 s)))))
 
+pub older_order : (n : ℕ) (s : List ℕ) → InOrder (older_rules n s) (interleaved_values n s)
+unfolding interleaved_values
+older_order n s =
+    stage_le 7 _ _ (stage_eq 9 _ _
+    (and_then_lem (cell_order n (drop 4 s)) (λ vs e.
+    stage_given 5 e (size_test_lem (length (joined vs))) (size_ok (length (joined vs))) success)))
+
 -- the kinds of the older form
 pub is_ragged_test : (f : Form) → IsRagged f → ragged_test f ≡ true
 is_ragged_test (fixed k o) p = absurd p
@@ -137,10 +144,9 @@ refusals = record {
       (and_then_lem (read_order k.masks k.form k.depth s (volume shape)) (λ c e.
       stage_given 6 e (enough_test_lem c (lengths_of out)) (enough_ok c (lengths_of out)) success))));
   decode_interleaved = λ n s out. named ragged_lengths_of
-      (stage_le 2 _ _ (stage_le 7 _ _ (stage_eq 9 _ _
-      (and_then_lem (cell_order n (drop 4 s)) (λ vs e.
-      stage_given 5 e (size_test_lem (length (joined vs))) (size_ok (length (joined vs)))
-      (stage_given 6 e (ragged_enough_test_lem _ (ragged_lengths_of out)) (ragged_enough_ok _ (ragged_lengths_of out)) success))))));
+      (stage_le 2 _ _
+      (and_then_lem (older_order n s) (λ vs e.
+      stage_given 6 e (ragged_enough_test_lem _ (ragged_lengths_of out)) (ragged_enough_ok _ (ragged_lengths_of out)) success)));
   encode_interleaved = λ k shape c out. named length
       (stage 1 (interleaved_test_lem k) (interleaved_ok k)
       (stage 2 (shape_test_lem shape) (shape_ok shape)

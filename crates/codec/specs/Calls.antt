@@ -1,14 +1,12 @@
 -- docs/SPEC.md, S6.2 to S6.4, S6.16, S7.2: the calls that write and read, their answers, refusals in order, and what is left in the outputs.
 -- Assumes nothing.
-use Rattle.std.specs.Prelude.{ℕ, suc, ◌*◌, List, length, take, drop, leb, eqb}
+use Rattle.std.specs.Prelude.{ℕ, List, length, leb}
 use Rattle.array.specs.Answer.{Answer, gives, unless, and_then, Outcome}
 use Rattle.array.specs.Limits.{most_cells}
-use Rattle.array.specs.Lists.{joined}
-use Rattle.array.specs.Bytes.{unle}
 use Rattle.array.specs.Kind.{Kind, Form, null_of, kind_test}
 use Rattle.array.specs.Shape.{volume, shape_test}
 use Rattle.array.specs.Cells.{Value}
-use Rattle.array.specs.Content.{Content, RaggedContent, end_to_end, layout, cells_of, values_in, size_test, unless_kept}
+use Rattle.array.specs.Content.{Content, RaggedContent, end_to_end, layout, cells_of, values_in, unless_kept}
 use Rattle.array.specs.declared.answer.Lengths.{Lengths}
 use Rattle.array.specs.declared.answer.RaggedLengths.{RaggedLengths}
 use Rattle.array.specs.Buffers.{lengths_of, ragged_lengths_of, enough_test, ragged_enough_test, list_outcome, ragged_outcome, content_outcome, if_room}
@@ -16,7 +14,7 @@ use Rattle.codec.specs.Mask.{MaskForm, mask_form}
 use Rattle.codec.specs.Frame.{frame, read_frame, live}
 use Rattle.codec.specs.Values.{put_values, get_values}
 use Rattle.codec.specs.Carried.{carried_test, fields_test}
-use Rattle.codec.specs.Interleaved.{interleaved_cells, put_interleaved, interleaved_test}
+use Rattle.codec.specs.Interleaved.{interleaved_values, put_interleaved, interleaved_test}
 
 -- ---- encode
 
@@ -61,15 +59,11 @@ decoded k shape s out = content_outcome (decode_answer k shape s (lengths_of out
 -- ---- decode_interleaved: n cells of the older form
 
 unfoldable pub interleaved_answer : ℕ → List ℕ → RaggedLengths → Answer RaggedContent
-unfolding unle interleaved_cells
+unfolding interleaved_values
 interleaved_answer n s room =
     unless (leb n most_cells) 2
-    (unless (leb (4 * suc n) (length s)) 7
-    (unless (eqb (unle (take 4 s)) n) 9
-    (and_then (interleaved_cells n (drop 4 s)) (λ vs.
-    let c : RaggedContent = end_to_end vs in
-    unless (size_test (length (joined vs))) 5
-    (if_room (ragged_enough_test c room) c)))))
+    (and_then (interleaved_values n s) (λ vs.
+    if_room (ragged_enough_test (end_to_end vs) room) (end_to_end vs)))
 
 unfoldable pub interleaved_decoded : ℕ → List ℕ → RaggedContent → Outcome RaggedLengths RaggedContent
 unfolding interleaved_answer

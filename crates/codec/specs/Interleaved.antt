@@ -7,6 +7,7 @@ use Rattle.array.specs.Lists.{joined}
 use Rattle.array.specs.Bytes.{le, unle}
 use Rattle.array.specs.Kind.{Kind, KindOk, kind_test, Form, fixed, ragged}
 use Rattle.array.specs.Cells.{Value}
+use Rattle.array.specs.Content.{size_test}
 
 -- ---- reading
 
@@ -19,6 +20,15 @@ interleaved_cells (suc n) s =
     unless (leb 4 (length s)) 11
     (unless (leb l (length (drop 4 s))) 11
     (and_then (interleaved_cells n (drop l (drop 4 s))) (λ vs. gives (take l (drop 4 s) ∷ vs))))
+
+-- the values of n cells, or what is refused of the string, in its order
+unfoldable pub interleaved_values : ℕ → List ℕ → Answer (List Value)
+unfolding unle interleaved_cells
+interleaved_values n s =
+    unless (leb (4 * suc n) (length s)) 7
+    (unless (eqb (unle (take 4 s)) n) 9
+    (and_then (interleaved_cells n (drop 4 s)) (λ vs.
+    unless (size_test (length (joined vs))) 5 (gives vs))))
 
 -- ---- writing
 

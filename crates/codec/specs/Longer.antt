@@ -57,15 +57,18 @@ decode_answer_at most k shape s room =
 abbrev pub decoded_at : ℕ → Kind → List ℕ → List ℕ → Content → Outcome Lengths Content
 decoded_at most k shape s out = content_outcome (decode_answer_at most k shape s (lengths_of out)) out
 
+abbrev pub interleaved_values_at : ℕ → ℕ → List ℕ → Answer (List Value)
+interleaved_values_at most n s =
+    unless (leb (4 * suc n) (length s)) 7
+    (unless (eqb (unle (take 4 s)) n) 9
+    (and_then (interleaved_cells n (drop 4 s)) (λ vs.
+    unless (leb (length (joined vs)) most) 5 (gives vs))))
+
 abbrev pub interleaved_answer_at : ℕ → ℕ → List ℕ → RaggedLengths → Answer RaggedContent
 interleaved_answer_at most n s room =
     unless (leb n most_cells) 2
-    (unless (leb (4 * suc n) (length s)) 7
-    (unless (eqb (unle (take 4 s)) n) 9
-    (and_then (interleaved_cells n (drop 4 s)) (λ vs.
-    let c : RaggedContent = end_to_end vs in
-    unless (leb (length (joined vs)) most) 5
-    (if_room (ragged_enough_test c room) c)))))
+    (and_then (interleaved_values_at most n s) (λ vs.
+    if_room (ragged_enough_test (end_to_end vs) room) (end_to_end vs)))
 
 abbrev pub interleaved_decoded_at : ℕ → ℕ → List ℕ → RaggedContent → Outcome RaggedLengths RaggedContent
 interleaved_decoded_at most n s out = ragged_outcome (interleaved_answer_at most n s (ragged_lengths_of out)) out

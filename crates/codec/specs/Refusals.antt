@@ -7,16 +7,16 @@ use Rattle.array.specs.Lists.{joined, pieces, All}
 use Rattle.array.specs.Bytes.{unle}
 use Rattle.array.specs.Kind.{Kind, KindOk, Place, Form, fixed, ragged, Masks, as_bytes, as_bits}
 use Rattle.array.specs.Shape.{volume, ShapeOk}
-use Rattle.array.specs.Offsets.{last, Rising, offsets_of}
+use Rattle.array.specs.Offsets.{last, Rising}
 use Rattle.array.specs.Cells.{Strict}
-use Rattle.array.specs.Content.{Content, RaggedContent, values_in, ArrayOk}
+use Rattle.array.specs.Content.{Content, RaggedContent, end_to_end, values_in, ArrayOk}
 use Rattle.array.specs.Buffers.{lengths_of, ragged_lengths_of, Enough, RaggedEnough}
 use Rattle.array.specs.Refusals.{Rule, InOrder, Given}
 use Rattle.codec.specs.Mask.{mask_form, bits_of}
 use Rattle.codec.specs.Frame.{count_set}
 use Rattle.codec.specs.Ragged.{part_of, left_of}
 use Rattle.codec.specs.Carried.{Carried, FieldsFit}
-use Rattle.codec.specs.Interleaved.{interleaved_cells, InterleavedOk}
+use Rattle.codec.specs.Interleaved.{interleaved_cells, interleaved_values, InterleavedOk}
 use Rattle.codec.specs.Calls.{stored_form, values_left, read_in, encoded, decoded, interleaved_decoded, interleaved_form, interleaved_encoded}
 
 -- ---- stored bytes
@@ -64,6 +64,12 @@ cell_rules (suc n) s =
     let l = unle (take 4 s) in
     (11, 4 ≤ length s) ∷ (11, l ≤ length (drop 4 s)) ∷ cell_rules n (drop l (drop 4 s))
 
+-- the string of n cells
+abbrev pub older_rules : ℕ → List ℕ → List Rule
+older_rules n s =
+    (7, 4 * suc n ≤ length s) ∷ (9, unle (take 4 s) ≡ n)
+    ∷ (cell_rules n (drop 4 s) ++ (5, Given (interleaved_cells n (drop 4 s)) (λ vs. length (joined vs) ≤ most_bytes)) ∷ [])
+
 -- ---- the calls
 
 abbrev pub encode_rules : Kind → List ℕ → Content → List ℕ → List Rule
@@ -78,11 +84,7 @@ decode_rules k shape s out =
 
 abbrev pub interleaved_rules : ℕ → List ℕ → RaggedContent → List Rule
 interleaved_rules n s out =
-    let cells = interleaved_cells n (drop 4 s) in
-    (2, n ≤ most_cells) ∷ (7, 4 * suc n ≤ length s) ∷ (9, unle (take 4 s) ≡ n)
-    ∷ (cell_rules n (drop 4 s)
-    ++ (5, Given cells (λ vs. length (joined vs) ≤ most_bytes))
-    ∷ (6, Given cells (λ vs. RaggedEnough (record { values = joined vs; offsets = offsets_of vs }) (ragged_lengths_of out))) ∷ [])
+    (2, n ≤ most_cells) ∷ (older_rules n s ++ (6, Given (interleaved_values n s) (λ vs. RaggedEnough (end_to_end vs) (ragged_lengths_of out))) ∷ [])
 
 abbrev pub encode_interleaved_rules : Kind → List ℕ → Content → List ℕ → List Rule
 encode_interleaved_rules k shape c out =

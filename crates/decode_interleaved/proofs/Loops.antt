@@ -16,8 +16,9 @@ use Rattle.array.proofs.Offsets.{length-ends}
 use Rattle.array.proofs.Laying.{Laying, laying_begins, laying_same, laying_ends, laying_store, laying_is, laying_room}
 use Rattle.codec.specs.Interleaved.{interleaved_cells}
 use Rattle.interleaved_cells.specs.Cell.{Copied}
+use Rattle.codec.proofs.Older.{length_read}
 use Rattle.decode_interleaved.specs.Walk.{total_of, stored_cells, walk_answer, found, Found}
-use Rattle.decode_interleaved.proofs.Steps.{length_at, field_past, cell_past, cell_next, Cell, cell_at, length_cells, cells_room}
+use Rattle.decode_interleaved.proofs.Steps.{length_at, field_past, cell_past, cell_next, Cell, cell_at, cells_room}
 use Rattle.interleaved_cells.proofs.Placing.{Placing, placing_begins, placing_is, placing_left, placing_ends, placing_cell}
 
 -- ---- walk_cells
@@ -122,7 +123,7 @@ copy_begins {n} {s} {vs₀} {os₀} e h g = record {
   within = omega arith;
   stored = ap (λ (k : ℕ). interleaved_cells k (drop 4 s)) (sub-zero n) ∙ e;
   placed = placing_begins (joined (found n s)) vs₀ h;
-  laid = laying_begins (offsets_of (found n s)) os₀ 0 (omega (arith, length-ends 0 (found n s), length_cells n (drop 4 s) (found n s) e));
+  laid = laying_begins (offsets_of (found n s)) os₀ 0 (omega (arith, length-ends 0 (found n s), length_read n (drop 4 s) (found n s) e));
 }
 
 pub copy_is : {n i at to at' to' : ℕ} {s vs₀ vs vs' os₀ os : List ℕ} → Copying n s vs₀ vs os₀ os i at to

@@ -15,14 +15,17 @@ use Rattle.array.specs.Lists.{joined}
 use Rattle.array.specs.Bytes.{unle}
 use Rattle.array.specs.Offsets.{ends, offsets_of}
 use Rattle.array.specs.Cells.{Value}
-use Rattle.array.specs.Content.{RaggedContent}
+use Rattle.array.specs.Content.{RaggedContent, end_to_end, size_test}
 use Rattle.array.specs.declared.answer.RaggedLengths.{RaggedLengths}
-use Rattle.array.specs.Buffers.{ragged_lengths_of, over, ragged_outcome}
+use Rattle.array.specs.Buffers.{ragged_lengths_of, ragged_enough_test, if_room, over, ragged_outcome}
 use Rattle.array.specs.Outcome.{content_ragged}
+use Rattle.array.proofs.Answers.{then_unless}
 use Rattle.array.proofs.Offsets.{length-ends}
+use Rattle.codec.specs.Interleaved.{interleaved_values}
 use Rattle.codec.specs.Calls.{interleaved_answer, interleaved_decoded}
+use Rattle.codec.proofs.Older.{length_read}
 use Rattle.decode_interleaved.specs.Walk.{total_of, stored_cells, walk_answer, given, found, Walked, found_answer}
-use Rattle.decode_interleaved.proofs.Steps.{never, length_cells}
+use Rattle.decode_interleaved.proofs.Steps.{never}
 
 -- a refusal leaves the outputs as they were
 abbrev pub refused : ℕ → RaggedContent → Outcome RaggedLengths RaggedContent
@@ -44,7 +47,7 @@ module _ {n : ℕ} {s : List ℕ} {sum : ℕ} (w : Walked n s sum) (old : Ragged
 
   -- one offset more than cells
   count : length (offsets_of (found n s)) ≡ n + 1
-  count = omega (arith, length-ends 0 (found n s), length_cells n (drop 4 s) (found n s) w.all)
+  count = omega (arith, length-ends 0 (found n s), length_read n (drop 4 s) (found n s) w.all)
 
   pub too_large : most_bytes < sum → refused 5 old ≡ cells_outcome
   too_large h = rw (lt-leb (total_of (found n s)) most_bytes (omega (arith, w.total)))
@@ -75,7 +78,7 @@ module _ {n : ℕ} {s : List ℕ} {sum : ℕ} (w : Walked n s sum) (old : Ragged
           → ◌≡◌ {A = Outcome RaggedLengths RaggedContent} (record { answer = gives (record { values = sum; offsets = n + 1 }); buffers = content_ragged old.values offsets }) cells_outcome
       none_written z f e =
           let none : total_of (found n s) ≡ 0 = omega (arith, w.total) in
-          let all : suc (length (found n s)) ≡ n + 1 = omega (arith, length_cells n (drop 4 s) (found n s) w.all) in
+          let all : suc (length (found n s)) ≡ n + 1 = omega (arith, length_read n (drop 4 s) (found n s) w.all) in
           let zeros : offsets_of (found n s) ≡ replicate (n + 1) 0 = ap (λ (l : List ℕ). 0 ∷ l) (zero-ends (found n s) none) ∙ ap (λ (k : ℕ). replicate k 0) all in
           all_written f (ap (λ (l : List ℕ). over l old.values) (take_all 0 (joined (found n s)) (omega arith)))
           (e ∙ ap (λ (l : List ℕ). over l old.offsets) (sym zeros))
@@ -103,12 +106,12 @@ walk_refused n s k e = go (stored_cells n s) e
 
 module _ (n : ℕ) (s : List ℕ) (old : RaggedContent) where
   pub many_cells : most_cells < n → refused 2 old ≡ interleaved_decoded n s old
-  unfolding interleaved_decoded interleaved_answer
+  unfolding interleaved_decoded interleaved_answer interleaved_values
   many_cells h = rw (lt-leb n most_cells h)
 
   module _ (h : n ≤ most_cells) where
     pub few_bytes : length s < 4 * (1 + n) → refused 7 old ≡ interleaved_decoded n s old
-    unfolding interleaved_decoded interleaved_answer
+    unfolding interleaved_decoded interleaved_answer interleaved_values
     few_bytes g = rw (le-leb n most_cells h, lt-leb (4 * suc n) (length s) (omega arith))
 
     module _ (g : 4 * (1 + n) ≤ length s) where
@@ -116,15 +119,19 @@ module _ (n : ℕ) (s : List ℕ) (old : RaggedContent) where
       room = le-leb (4 * suc n) (length s) (omega arith)
 
       pub other_count : (unle (take 4 s) ≡ n → ⊥) → refused 9 old ≡ interleaved_decoded n s old
-      unfolding interleaved_decoded interleaved_answer
+      unfolding interleaved_decoded interleaved_answer interleaved_values
       other_count f = rw (le-leb n most_cells h, room, ne_eqb (unle (take 4 s)) n f)
 
       module _ (f : unle (take 4 s) ≡ n) where
         pub past_end : (e : ℕ) → refuses e ≡ walk_answer n s → refused e old ≡ interleaved_decoded n s old
-        unfolding interleaved_decoded interleaved_answer
+        unfolding interleaved_decoded interleaved_answer interleaved_values
         past_end e w = rw (le-leb n most_cells h, room, eq-eqb (unle (take 4 s)) n f, walk_refused n s e w)
 
         pub all_found : (sum : ℕ) → gives sum ≡ walk_answer n s → {o : Outcome RaggedLengths RaggedContent}
             → o ≡ ragged_outcome (found_answer (found n s) (ragged_lengths_of old)) old → o ≡ interleaved_decoded n s old
-        unfolding interleaved_decoded interleaved_answer
-        all_found sum w e = rw (le-leb n most_cells h, room, eq-eqb (unle (take 4 s)) n f, (walk_found n s sum h w).all) e
+        unfolding interleaved_decoded interleaved_answer interleaved_values
+        all_found sum w e =
+            let vs : List Value = found n s in
+            rw (le-leb n most_cells h, room, eq-eqb (unle (take 4 s)) n f, (walk_found n s sum h w).all)
+            (e ∙ sym (ap (λ (a : Answer RaggedContent). ragged_outcome a old)
+            (then_unless (size_test (total_of vs)) 5 vs (λ us. if_room (ragged_enough_test (end_to_end us) (ragged_lengths_of old)) (end_to_end us)))))

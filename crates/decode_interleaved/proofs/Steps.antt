@@ -80,14 +80,6 @@ cell_at s at n vs e = go (leb (at + 4) (length s)) (leb (at + 4 + length_at s at
         let f : at + 4 + length_at s at ≤ length s = leb-true (at + 4 + length_at s at) (length s) q in
         record { others = us; fits = f; after = r; whole = cc (cell_next s at n (omega arith) f) }
 
--- as many cells as were asked for
-pub length_cells : (n : ℕ) (s : List ℕ) (vs : List Value) → interleaved_cells n s ≡ gives vs → length vs ≡ n
-unfolding interleaved_cells
-length_cells zero s vs e = let z : vs ≡ [] = cc in ap length z
-length_cells (suc n) s vs e =
-    let c : Cell s 0 n vs = cell_at s 0 n vs e in
-    ap length c.whole ∙ ap suc (length_cells n (drop (0 + 4 + length_at s 0) s) c.others c.after)
-
 -- a length field and the bytes of each lie in the string
 pub cells_room : (n : ℕ) (s : List ℕ) (vs : List Value) → interleaved_cells n s ≡ gives vs → 4 * n + length (joined vs) ≤ length s
 unfolding interleaved_cells

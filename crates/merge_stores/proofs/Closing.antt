@@ -15,18 +15,19 @@ use Rattle.array.specs.Shape.{volume}
 use Rattle.array.specs.Subset.{Subset, lengths, cells_of_all, SubsetOk}
 use Rattle.array.specs.Places.{fixed_at, offset_at, sum, sums}
 use Rattle.array.proofs.LayoutLaws.{leaves-attach, length-attach, values_length_lem, values_sized}
-use Rattle.array.proofs.Lists.{joined-append, joined-pieces, All-append, map-from}
+use Rattle.array.proofs.Lists.{joined-append, joined-pieces, All-append, map-from, All-at}
 use Rattle.array.proofs.SubsetLaws.{all_below}
 use Rattle.array.proofs.Sums.{sum_of, sum-count}
 use Rattle.chunks.specs.Chunks.{first_chunk}
 use Rattle.chunks.specs.Gather.{lookup, put_back, Once}
+use Rattle.chunks.proofs.Gather.{lookup_at}
 use Rattle.merge_stores.specs.Ragged.{step_parts}
 use Rattle.merge_stores.specs.Scatter.{scatter, places}
 use Rattle.merge_stores.specs.Store.{parts, level_at, masks_merged, cells_total}
 use Rattle.merge_stores.proofs.Blocks.{fixed_block}
 use Rattle.merge_stores.proofs.FirstChunk.{Chunked, none_of, first_of, first_leaves, all_values}
 use Rattle.merge_stores.proofs.Levels.{put_back-map, masks_put_back, chunk_levels, length_all}
-use Rattle.merge_stores.proofs.RaggedMerge.{offsets_merged_lem, lookup_at, All-at, map_at, ragged_block}
+use Rattle.merge_stores.proofs.RaggedMerge.{offsets_merged_lem, map_at, ragged_block}
 use Rattle.merge_stores.proofs.RaggedTies.{ragged_lengths_lem}
 
 -- ---- the sum of what is merged is the sum of what was there
@@ -39,7 +40,7 @@ sum_once_all f js a (suc n) o =
 pub sum-put_back : (n : ℕ) (js ls : List ℕ) → All (λ j. j < n) js → Once n js → length js ≡ length ls → sum (put_back 0 n js ls) ≡ sum ls
 sum-put_back n js ls a o e =
     sym (sum_once_all (λ i. lookup 0 i js ls) js 0 n (λ i h. o i (omega arith))) ∙ sym (sum-count (λ i. lookup 0 i js ls) n js a)
-    ∙ ap sum (map_at (λ i. lookup 0 i js ls) js ls e (λ i h. lookup_at 0 js ls i e h (o (get_or js i 0) (All-at (λ j. j < n) js a i h))))
+    ∙ ap sum (map_at (λ i. lookup 0 i js ls) js ls e (λ i h. lookup_at 0 js ls i e h (o (get_or js i 0) (All-at (λ j. j < n) 0 js a i h))))
 
 -- ---- masks
 

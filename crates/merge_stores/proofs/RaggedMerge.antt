@@ -2,21 +2,19 @@
 -- Assumes nothing.
 use mathlib.Core.Path.{◌≡◌, refl, sym, ap, ap₂, ◌∙◌, subst}
 use Prim.Native.Nat.{ℕ, zero, suc, ◌+◌, ◌<◌, ◌≤◌}
-use native.Mathlib.Nat.{add-zero, zero-add, add_assoc}
+use native.Mathlib.Nat.{add-zero, add_assoc}
 use native.Mathlib.Omega.{arith}
-use mathlib.Core.Bool.{Bool, true, false}
 use mathlib.Core.List.{List, [], ◌∷◌, ◌++◌, map}
 use lib.ListN.{length, get_or, take, drop, length-map, get_or-append, get_or-map}
-use lib.Dec.{eqb}
 use lib.Seq.{take-suc}
-use borrow.Author.Tests.{eq-eqb}
 use Rattle.array.specs.Cells.{Value}
-use Rattle.array.specs.Lists.{All, joined, from, pick, count}
+use Rattle.array.specs.Lists.{All, joined, from}
 use Rattle.array.specs.Offsets.{ends, offsets_of}
 use Rattle.array.specs.Places.{offset_at, Rises, step_at, sum, sums, steps_at}
-use Rattle.array.proofs.Lists.{length_from_lem, at_from}
+use Rattle.array.proofs.Lists.{All-at, length_from_lem}
 use Rattle.array.proofs.Places.{sum-append, length-sums}
 use Rattle.chunks.specs.Gather.{lookup, put_back, Once}
+use Rattle.chunks.proofs.Gather.{put_back_at}
 use Rattle.merge_stores.specs.Scatter.{scatter, places}
 use Rattle.merge_stores.proofs.Blocks.{Beside, merged_block}
 use Rattle.merge_stores.proofs.Levels.{put_back-map}
@@ -38,35 +36,8 @@ sums_at a (x ∷ xs) (suc j) h = sums_at (a + x) xs j (omega arith) ∙ add_asso
 pub offset_is : (xs t : List ℕ) (j : ℕ) → j ≤ length xs → offset_at ((0 ∷ sums 0 xs) ++ t) j ≡ 0 + sum (take j xs)
 offset_is xs t j h = get_or-append (0 ∷ sums 0 xs) t 0 j (omega (arith, length-sums 0 xs)) ∙ sums_at 0 xs j h
 
--- ---- the element at a place that stands once in the list
-
-count_some : (js : List ℕ) (i : ℕ) → i < length js → 0 < count (get_or js i 0) js
-count_some [] i h = absurd (omega arith)
-count_some (j ∷ js) zero h = rw (eq-eqb j j refl) (omega arith)
-count_some (j ∷ js) (suc i) h = go (eqb (get_or js i 0) j) (count_some js i (omega arith))
-  where
-    go : (b : Bool) → 0 < count (get_or js i 0) js → 0 < pick b (suc (count (get_or js i 0) js)) (count (get_or js i 0) js)
-    go true p = omega arith
-    go false p = p
-
-pub lookup_at : {A : Type 0} (z : A) (js : List ℕ) (xs : List A) (i : ℕ) → length js ≡ length xs → i < length js → count (get_or js i 0) js ≡ 1 → lookup z (get_or js i 0) js xs ≡ get_or xs i z
-lookup_at z [] xs i e h o = absurd (omega arith)
-lookup_at z (j ∷ js) [] i e h o = absurd (omega arith)
-lookup_at z (j ∷ js) (x ∷ xs) zero e h o = rw (eq-eqb j j refl)
-lookup_at {A} z (j ∷ js) (x ∷ xs) (suc i) e h o = go (eqb (get_or js i 0) j) (lookup_at z js xs i (omega arith) (omega arith)) o
-  where
-    go : (b : Bool) → (count (get_or js i 0) js ≡ 1 → lookup z (get_or js i 0) js xs ≡ get_or xs i z) → pick b (suc (count (get_or js i 0) js)) (count (get_or js i 0) js) ≡ 1
-        → pick b x (lookup z (get_or js i 0) js xs) ≡ get_or xs i z
-    go true ih o = absurd (omega (arith, count_some js i (omega arith)))
-    go false ih o = ih o
-
 pub many_from : {A : Type 0} (f : ℕ → A) (a n : ℕ) → length (map f (from a n)) ≡ n
 many_from f a n = length-map (from a n) f ∙ length_from_lem a n
-
-pub All-at : (P : ℕ → Type 0) (js : List ℕ) → All P js → (i : ℕ) → i < length js → P (get_or js i 0)
-All-at P [] a i h = absurd (omega arith)
-All-at P (j ∷ js) a zero h = a.0
-All-at P (j ∷ js) a (suc i) h = All-at P js a.1 i (omega arith)
 
 -- a list by its elements
 pub map_at : (f : ℕ → ℕ) (js ls : List ℕ) → length js ≡ length ls → ((i : ℕ) → i < length js → f (get_or js i 0) ≡ get_or ls i 0) → map f js ≡ ls
@@ -76,11 +47,6 @@ map_at f (j ∷ js) [] e h = absurd (omega arith)
 map_at f (j ∷ js) (l ∷ ls) e h = ap₂ (λ (x : ℕ) (r : List ℕ). x ∷ r) (h 0 (omega arith)) (map_at f js ls (omega arith) (λ i k. h (suc i) (omega arith)))
 
 module _ (n : ℕ) (js : List ℕ) (a : All (λ j. j < n) js) (once : Once n js) where
-  pub put_back_at : {A : Type 0} (z : A) (xs : List A) (i : ℕ) → length js ≡ length xs → i < length js → get_or (put_back z n js xs) (get_or js i 0) z ≡ get_or xs i z
-  put_back_at z xs i e h =
-      let l : get_or js i 0 < n = All-at (λ j. j < n) js a i h in
-      at_from z (λ k. lookup z k js xs) n 0 (get_or js i 0) l ∙ ap (λ k. lookup z k js xs) (zero-add (get_or js i 0)) ∙ lookup_at z js xs i e h (once (get_or js i 0) l)
-
   module _ (ls t : List ℕ) (e : length js ≡ length ls) where
     long : length (put_back 0 n js ls) ≡ n
     long = many_from (λ k. lookup 0 k js ls) 0 n
@@ -95,7 +61,7 @@ module _ (n : ℕ) (js : List ℕ) (a : All (λ j. j < n) js) (once : Once n js)
     pub steps_merged : steps_at (offset_at ((0 ∷ sums 0 (put_back 0 n js ls)) ++ t)) js ≡ ls
     steps_merged =
         map_at (step_at (offset_at ((0 ∷ sums 0 (put_back 0 n js ls)) ++ t))) js ls e
-        (λ i h. omega (arith, step (get_or js i 0) (All-at (λ j. j < n) js a i h), put_back_at 0 ls i e h))
+        (λ i h. omega (arith, step (get_or js i 0) (All-at (λ j. j < n) 0 js a i h), put_back_at n js a once 0 ls i e h))
 
     pub rises_merged : Rises (offset_at ((0 ∷ sums 0 (put_back 0 n js ls)) ++ t)) n
     rises_merged j h = omega (arith, step j h)
@@ -115,5 +81,5 @@ module _ (n : ℕ) (js : List ℕ) (a : All (λ j. j < n) js) (once : Once n js)
       let lx : length xs ≡ n = long (map length vs) [] el in
       let z : 0 + sum xs ≡ sum xs = omega arith in
       merged_block xs (offset_at ((0 ∷ sums 0 xs) ++ t)) 0 o (λ j h. offset_is xs t j h) (omega arith) [] js vs (subst (λ (k : ℕ). All (λ j. j < k) js) (sym lx) a)
-      (beside_from (λ j v. length v ≡ get_or xs j 0) js vs e (λ i h. sym (put_back_at 0 (map length vs) i el h ∙ get_or-map length vs i []))) (subst (λ (k : ℕ). Once k js) (sym lx) once)
+      (beside_from (λ j v. length v ≡ get_or xs j 0) js vs e (λ i h. sym (put_back_at n js a once 0 (map length vs) i el h ∙ get_or-map length vs i []))) (subst (λ (k : ℕ). Once k js) (sym lx) once)
       ∙ ap₂ (λ (k m : ℕ). joined (put_back [] k js vs) ++ drop m o) lx z
