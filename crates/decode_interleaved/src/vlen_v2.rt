@@ -3,10 +3,11 @@
 ghost use Rattle.std.specs.Prelude.{◌≡◌, ◌+◌, ◌≤◌, length};
 ghost use Rattle.array.specs.Lists.{joined};
 ghost use Rattle.array.specs.Offsets.{offsets_of};
+ghost use Rattle.array.specs.Limits.{most_cells};
 ghost use Rattle.array.specs.Buffers.{over, ragged_outcome, ragged_lengths_of};
 ghost use Rattle.array.specs.Outcome.{content_ragged, outcome_ragged};
 ghost use Rattle.codec.specs.Calls.{interleaved_decoded};
-ghost use Rattle.decode_interleaved.specs.Walk.{walk_answer, total_of, found, Found, Walked, found_answer};
+ghost use Rattle.decode_interleaved.specs.Walk.{walk_answer, read_answer, total_of, found, Found, Walked, found_answer};
 ghost use Rattle.array.specs.Meaning.{told};
 
 use array::answer::RaggedLengths;
@@ -70,7 +71,26 @@ fn copy_cells(values: &mut [u8], offsets: &mut [u64], bytes: &[u8], cells: usize
     offsets[cells] = to as u64;
 }
 
-// Cells that the walk found, `sum` bytes in all: 5, 6, and then the copying.
+// How many value bytes `cells` cells have, or what is refused of them. Bytes after the last cell are ignored.
+#[tactic(auto, using(crate::proofs::Outcomes::few_bytes), unfolding(array::specs::Limits::most_cells))]
+pub fn read_cells(bytes: &[u8], cells: usize) -> Result<usize, Refusal>
+    requires { cells ≤ most_cells }
+    ensures { told result ≡ read_answer cells bytes.now }
+{
+    if bytes.len() < 4 * (1 + cells) {
+        return Err(Refusal::Short);
+    }
+    if field::le4_at(bytes, 0) != cells as u64 {
+        return Err(Refusal::Count);
+    }
+    let sum = walk_cells(bytes, cells)?;
+    if sum > array_bytes::MOST_BYTES {
+        return Err(Refusal::Size);
+    }
+    Ok(sum)
+}
+
+// Cells that were read, `sum` bytes in all: 6, and then the copying.
 fn write_cells(
     cells: usize,
     bytes: &[u8],
@@ -83,9 +103,6 @@ fn write_cells(
         ≡ ragged_outcome (found_answer (found cells bytes.now) (ragged_lengths_of (content_ragged values.old offsets.old)))
         (content_ragged values.old offsets.old) }
 {
-    if sum > array_bytes::MOST_BYTES {
-        return Err(Refusal::Size);
-    }
     if values.len() < sum {
         return Err(Refusal::Output);
     }
@@ -108,8 +125,8 @@ fn write_cells(
     })
 }
 
-// Reads `cells` cells of the older form: their bytes end to end, and their offsets from 0. Bytes after the last cell are ignored.
-#[tactic(auto, using(crate::proofs::Outcomes::few_bytes), unfolding(array::specs::Limits::most_cells))]
+// Reads `cells` cells of the older form: their bytes end to end, and their offsets from 0.
+#[tactic(auto, using(crate::proofs::Outcomes::call_laws), unfolding(array::specs::Limits::most_cells))]
 pub fn decode_interleaved(
     cells: u64,
     bytes: &[u8],
@@ -123,12 +140,6 @@ pub fn decode_interleaved(
         return Err(Refusal::Shape);
     }
     let n = cells as usize;
-    if bytes.len() < 4 * (1 + n) {
-        return Err(Refusal::Short);
-    }
-    if field::le4_at(bytes, 0) != cells {
-        return Err(Refusal::Count);
-    }
-    let sum = walk_cells(bytes, n)?;
+    let sum = read_cells(bytes, n)?;
     write_cells(n, bytes, sum, values, offsets)
 }
