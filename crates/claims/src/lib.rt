@@ -4,6 +4,11 @@
 
 ghost use Rattle.arrange.specs.Law.{Arrangements, FirstWeighsMost};
 ghost use Rattle.arrange.specs.Lines.{Lines};
+ghost use Rattle.chunks.specs.Demand.{Demand3};
+ghost use Rattle.chunks.specs.Longer as chunks;
+ghost use Rattle.codec.specs.Long.{LongLines};
+ghost use Rattle.codec.specs.Longer as codec;
+ghost use Rattle.codec.specs.Older.{OlderReturns};
 
 // docs/SPEC.md, S15.4: each arrangement is a valid array in rest form with zero bytes and lengths up to 3, each such array comes up for just one
 // number, and of a number below the count nothing but 6 is refused.
@@ -23,3 +28,46 @@ pub fn first_cell_weighs_most()
 pub fn arrangement_lines()
     ensures { Lines }
 {}
+
+// docs/SPEC.md, S8.3: any valid table, cut into any parts that hold each cell once, stored, read back and merged, where no writing meets 20.
+#[tactic(auto, using(chunks::proofs::Demand::demand3))]
+pub fn table_comes_back()
+    ensures { Demand3 }
+{
+}
+
+// docs/SPEC.md, S8.8: what is written in the interleaved form reads back, where each cell fits its field.
+#[tactic(auto, using(codec::proofs::Older::older_returns))]
+pub fn interleaved_form_comes_back()
+    ensures { OlderReturns }
+{
+}
+
+// docs/SPEC.md, S8.11: the calls that read or write stored bytes leave what they left under the limit of 16,777,216 value bytes, but where that
+// answer was 5.
+#[tactic(auto, using(codec::proofs::Longer::longer))]
+pub fn stored_bytes_as_before()
+    ensures { codec.Longer }
+{
+}
+
+// The same of the calls that cut and merge.
+#[tactic(auto, using(chunks::proofs::Longer::longer))]
+pub fn parts_as_before()
+    ensures { chunks.Longer }
+{
+}
+
+// With the limit of today the readers that take the limit as a parameter are the calls.
+#[tactic(auto, using(codec::proofs::Longer::as_today))]
+pub fn readers_of_today()
+    ensures { codec.AsToday }
+{
+}
+
+// docs/SPEC.md, S10.55: long arrays.
+#[tactic(auto, using(codec::proofs::Long::long_lines))]
+pub fn long_lines()
+    ensures { LongLines }
+{
+}
