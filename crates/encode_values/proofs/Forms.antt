@@ -38,7 +38,7 @@ use Rattle.live_cells.proofs.Runs.{live-le, live_all}
 use Rattle.encode_cells.proofs.Packing.{fixed_long}
 use Rattle.live_cells.proofs.LiveMarks.{count_all}
 use Rattle.encode_data.proofs.Spans.{all_bytes}
-use Rattle.encode_values.proofs.Levels.{NarrowOk, values_small, length_none, length_values, length-frame, length_small, flat-length}
+use Rattle.encode_values.proofs.Levels.{level_room, NarrowOk, values_small, length_none, length_values, length-frame, length_small, flat-length}
 
 -- ---- the masks of all levels
 
@@ -73,7 +73,7 @@ pub mask_small : (x : Masks) (c : Counted) → (mask_form x).size c.count ≤ c.
 mask_small x c = omega (arith, (mask_laws x).size_le c.count, c.counted, live-le c.level.cells c.level.masks.now c.level.depth)
 
 pub length_fits : (k : declared.Kind) {n : ℕ} {masks os : List ℕ} → Measured (kind_of k) n masks os → (left : ℕ)
-    → length_from (kind_of k) n masks os left ≤ left * 65552 + 8590458896
+    → length_from (kind_of k) n masks os left ≤ suc left * level_room
 length_fits k m left = length_small (narrow_of k.values) m left
 
 -- what is written of a level, case by case
@@ -86,7 +86,7 @@ module _ (k : declared.Kind) {n : ℕ} {masks os : List ℕ} (m : Measured (kind
   abbrev live : List ℕ
   live = live_at n masks k.depth
 
-  values_fit : values_length_at (form_of k.values) os live ≤ 8590458896
+  values_fit : values_length_at (form_of k.values) os live ≤ level_room
   values_fit = values_small (form_of k.values) n masks os k.depth (narrow_of k.values) m.few m.sizes
 
   pub count_small : count ≤ 65536
@@ -97,7 +97,7 @@ module _ (k : declared.Kind) {n : ℕ} {masks os : List ℕ} (m : Measured (kind
     pub fixed_length : count * s ≡ values_length_at (form_of k.values) os live
     fixed_length = ap (λ (j : ℕ). j * s) ec ∙ ap (λ (v : Values). values_length_at (form_of v) os live) (sym e)
 
-    pub fixed_small : count * s ≤ 8590458896
+    pub fixed_small : count * s ≤ level_room
     fixed_small = omega (arith, fixed_length, values_fit)
 
   module _ {w : IndexWidth} {p : IndexPlace} (e : k.values ≡ Ragged w p) where
@@ -113,7 +113,7 @@ module _ (k : declared.Kind) {n : ℕ} {masks os : List ℕ} (m : Measured (kind
           ap₂ (λ (a b : ℕ). 8 + a + b) (ap₂ (λ (a b : ℕ). a * b) ej (add-one count ∙ ap suc ec)) eb
           ∙ ap (λ (v : Values). values_length_at (form_of v) os live) (sym e)
 
-      pub ragged_small : 8 + j * (count + 1) + bytes ≤ 8590458896
+      pub ragged_small : 8 + j * (count + 1) + bytes ≤ level_room
       ragged_small = omega (arith, ragged_length_lem, values_fit)
 
 -- ---- the same at depth 0, where all cells count
@@ -129,7 +129,7 @@ module _ (k : declared.Kind) (z : k.depth ≡ 0) {n : ℕ} {masks os : List ℕ}
     pub flat_fixed : n * s ≡ length_from (kind_of k) n masks os k.depth
     flat_fixed = fixed_length k m all e ∙ is
 
-    pub flat_fixed_small : n * s ≤ 8590458896
+    pub flat_fixed_small : n * s ≤ level_room
     flat_fixed_small = fixed_small k m all e
 
   module _ {w : IndexWidth} {p : IndexPlace} (e : k.values ≡ Ragged w p) {j : ℕ} (ej : j ≡ width_of w) where
@@ -143,7 +143,7 @@ module _ (k : declared.Kind) (z : k.depth ≡ 0) {n : ℕ} {masks os : List ℕ}
     pub flat_ragged : 8 + j * (n + 1) + get_or os n 0 ≡ length_from (kind_of k) n masks os k.depth
     flat_ragged = ragged_length_lem k m all e ej bytes ∙ is
 
-    pub flat_ragged_small : 8 + j * (n + 1) + get_or os n 0 ≤ 8590458896
+    pub flat_ragged_small : 8 + j * (n + 1) + get_or os n 0 ≤ level_room
     flat_ragged_small = ragged_small k m all e ej bytes
 
 pub ruleset flat_laws = (flat_fixed, flat_fixed_small, flat_ragged, flat_ragged_small)

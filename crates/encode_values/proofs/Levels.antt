@@ -137,12 +137,16 @@ or_le : (k x m : ℕ) → x ≤ m → or_nothing k x ≤ m
 or_le zero x m h = omega arith
 or_le (suc k) x m h = h
 
+-- more than a level can take under any limit of ours, and so little that five of them fit a number of 64 bits: 2 to the 60
+abbrev pub level_room : ℕ
+level_room = 1152921504606846976
+
 -- a width is at most 8
 abbrev pub NarrowOk : Form → Type 0
 NarrowOk (fixed k o) = Unit {0}
 NarrowOk (ragged w p) = w ≤ 8
 
-pub values_small : (f : Form) (n : ℕ) (masks os : List ℕ) (l : ℕ) → NarrowOk f → n ≤ most_cells → MeasuresOk f n os → values_length_at f os (live_at n masks l) ≤ 8590458896
+pub values_small : (f : Form) (n : ℕ) (masks os : List ℕ) (l : ℕ) → NarrowOk f → n ≤ most_cells → MeasuresOk f n os → values_length_at f os (live_at n masks l) ≤ level_room
 unfolding most_cells most_bytes
 values_small (fixed k o) n masks os l w h p = le_trans (mul-le-mul {n₁ = length (live_at n masks l)} {n₂ = 65536} (omega (arith, live-le n masks l)) p) (omega arith)
 values_small (ragged w q) n masks os l nw h p =
@@ -150,13 +154,13 @@ values_small (ragged w q) n masks os l nw h p =
     let a : w * suc m ≤ 8 * suc m = mul-le-mul_right (suc m) nw in
     omega (arith, live-le n masks l, bytes_le {os = os} (record { counted = p.0; rising = p.1 }) (shown_at n masks l), p.2)
 
-pub length_small : {k : Kind} {n : ℕ} {masks os : List ℕ} → NarrowOk k.form → Measured k n masks os → (left : ℕ) → length_from k n masks os left ≤ left * 65552 + 8590458896
+pub length_small : {k : Kind} {n : ℕ} {masks os : List ℕ} → NarrowOk k.form → Measured k n masks os → (left : ℕ) → length_from k n masks os left ≤ suc left * level_room
 unfolding length_from most_cells
 length_small {k} {n} {masks} {os} w m zero =
     let live : List ℕ = live_at n masks k.depth in
-    or_le (length live) (values_length_at k.form os live) (0 * 65552 + 8590458896) (omega (arith, values_small k.form n masks os k.depth w m.few m.sizes))
+    or_le (length live) (values_length_at k.form os live) (1 * level_room) (omega (arith, values_small k.form n masks os k.depth w m.few m.sizes))
 length_small {k} {n} {masks} {os} w m (suc left) =
     let l : ℕ = level_of k (suc left) in
     let count : ℕ = length (live_at n masks l) in
-    or_le count (16 + (mask_form k.masks).size count + length_from k n masks os left) (suc left * 65552 + 8590458896)
-    (omega (arith, length_small w m left, live-le n masks l, (mask_laws k.masks).size_le count, m.few, suc-mul left 65552))
+    or_le count (16 + (mask_form k.masks).size count + length_from k n masks os left) (suc (suc left) * level_room)
+    (omega (arith, length_small w m left, live-le n masks l, (mask_laws k.masks).size_le count, m.few, suc-mul (suc left) level_room))
