@@ -94,13 +94,13 @@ module _ {n : ℕ} {s : List ℕ} {left at sum : ℕ} (w : Walking n s left at s
 -- ---- the cells that are left, where the walk refused nothing
 
 -- the next of them
-next_cell : (s : List ℕ) (left at : ℕ) (vs : List Value) → interleaved_cells left (drop at s) ≡ gives vs → 0 < left → Cell s at (left - 1) vs
+pub next_cell : (s : List ℕ) (left at : ℕ) (vs : List Value) → interleaved_cells left (drop at s) ≡ gives vs → 0 < left → Cell s at (left - 1) vs
 next_cell s left at vs e h =
     let one : left ≡ suc (left - 1) = omega arith in
     cell_at s at (left - 1) vs (ap (λ (k : ℕ). interleaved_cells k (drop at s)) (sym one) ∙ e)
 
 -- none of them
-no_cell : (s : List ℕ) (left at : ℕ) (vs : List Value) → interleaved_cells left (drop at s) ≡ gives vs → left ≤ 0 → vs ≡ []
+pub no_cell : (s : List ℕ) (left at : ℕ) (vs : List Value) → interleaved_cells left (drop at s) ≡ gives vs → left ≤ 0 → vs ≡ []
 unfolding interleaved_cells
 no_cell s left at vs e h =
     let none : left ≡ 0 = omega arith in

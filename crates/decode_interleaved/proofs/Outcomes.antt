@@ -8,7 +8,7 @@ use mathlib.Core.List.{List, [], ◌∷◌}
 use lib.ListN.{length, take, drop, replicate, length-append}
 use lib.Dec.{leb, eqb}
 use lib.Seq.{take_all}
-use borrow.Author.Tests.{le-leb, lt-leb, eq-eqb, ne_eqb}
+use borrow.Author.Tests.{le-leb, lt-leb, eq-eqb, ne_eqb, leb-true, eqb-true}
 use Rattle.array.specs.Answer.{Answer, gives, refuses, and_then, unless, map_answer, Outcome}
 use Rattle.array.specs.Limits.{most_cells, most_bytes}
 use Rattle.array.specs.Lists.{joined}
@@ -147,6 +147,15 @@ cells_read n s sum h e =
       },
       r.1.0 ∙ ap gives (sym same),
     )
+
+-- a string whose cells are given begins with their count
+pub count_read : (n : ℕ) (s : List ℕ) {vs : List Value} → interleaved_values n s ≡ gives vs → (4 ≤ length s) × (unle (take 4 s) ≡ n)
+unfolding interleaved_values
+count_read n s e =
+    let cells : Answer (List Value) = and_then (stored_cells n s) (λ us. unless (size_test (total_of us)) 5 (gives us)) in
+    let long = passed (leb (4 * suc n) (length s)) 7 (unless (eqb (unle (take 4 s)) n) 9 cells) e in
+    let count = passed (eqb (unle (take 4 s)) n) 9 cells long.1 in
+    (omega (arith, leb-true (4 * suc n) (length s) long.0), eqb-true (unle (take 4 s)) n count.0)
 
 -- ---- decode_interleaved
 

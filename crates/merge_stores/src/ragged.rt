@@ -47,7 +47,7 @@ fn store_lengths_all(out: &mut [u64], src: &[u64], subsets: Subsets)
 
 // Lengths become offsets, in place: 0, and after it each of the n lengths added to those before it.
 #[tactic(auto, using(crate::proofs::Summing::sum_laws), unfolding(array::specs::Limits::most_bytes))]
-fn sum_up(out: &mut [u64], n: usize)
+pub fn sum_up(out: &mut [u64], n: usize)
     requires { (n < length out.old) × (sum (take n (drop 1 out.old)) ≤ most_bytes) }
     ensures { out.new ≡ (0 ∷ sums 0 (take n (drop 1 out.old))) ++ drop (n + 1) out.old }
 {

@@ -51,7 +51,7 @@ offset_in w (suc m) q (suc j) h =
     offset_in w m (drop w q) j (omega arith) ∙ ap (λ (l : List ℕ). unle (take w l)) (drop-drop (j * w) w q ∙ ap (λ (k : ℕ). drop k q) e)
 
 -- it is the one that the reader gives
-stored_is : (w n : ℕ) (s : List ℕ) (index j : ℕ) → j ≤ n → offset_at (offsets_in w (suc n) (drop index s)) j ≡ stored_at w s index j
+pub stored_is : (w n : ℕ) (s : List ℕ) (index j : ℕ) → j ≤ n → offset_at (offsets_in w (suc n) (drop index s)) j ≡ stored_at w s index j
 unfolding stored_at
 stored_is w n s index j h =
     offset_in w (suc n) (drop index s) j (omega arith) ∙ ap (λ (l : List ℕ). unle (take w l)) (drop-drop (j * w) index s)
@@ -114,7 +114,7 @@ read_found width p s n i h =
 -- ---- the cut
 
 -- the values between offsets that are the same
-values_same : (off : ℕ → ℕ) {to : ℕ → ℕ} {n : ℕ} (q : List ℕ) → Rises to n → ((j : ℕ) → j ≤ n → off j ≡ to j) → (js : List ℕ) → All (λ j. j < n) js
+pub values_same : (off : ℕ → ℕ) {to : ℕ → ℕ} {n : ℕ} (q : List ℕ) → Rises to n → ((j : ℕ) → j ≤ n → off j ≡ to j) → (js : List ℕ) → All (λ j. j < n) js
     → values_at off (take (to n) q) js ≡ values_at to q js
 values_same off q r e [] a = refl
 values_same off {to} {n} q r e (j ∷ js) a =
