@@ -75,7 +75,8 @@
  *
  * MEMORY. The caller owns all of it: no heap is used and no pointer is kept. Outputs, and what is edited in place, must
  * overlap neither each other nor an input nor `lengths`. Inputs may overlap each other. Pointers to numbers must be
- * aligned for uint64_t.
+ * aligned for uint64_t. Value bytes are touched only where a call copies them, and the stored bytes of ragged values only in
+ * their index and where they are copied; so long values may lie in a mapped file, and a call that refuses reads none of them.
  *
  * STACK. 16 KiB is enough for any call but dpx_table_read, dpx_table_set, dpx_table_preview, dpx_table_pack and dpx_guest_edit,
  * which put the cells in the order in which they lie: for these 16 KiB are enough up to 2,048 cells, and 272 KiB above.
@@ -105,7 +106,7 @@ extern "C" {
 #define DPX_MAX_SIZE 64             /* bytes of a fixed cell, from 1  */
 #define DPX_MAX_SIDES 4             /* sides of a shape, from 1       */
 #define DPX_MAX_CELLS 65536         /* cells of a shape               */
-#define DPX_MAX_VALUE_BYTES 16777216 /* value bytes of a table        */
+#define DPX_MAX_VALUE_BYTES UINT64_C(8589934592) /* value bytes of a table: more than an int holds */
 #define DPX_MAX_STORE 16777216      /* bytes of a working table's store */
 #define DPX_MAX_MOVES 256           /* cells that one dpx_table_pack moves, from 1 */
 #define DPX_MAX_ARRANGED_DEPTH 2    /* mask levels of an arrangement; 0 is allowed */
@@ -128,7 +129,7 @@ enum dpx_refusal {
     DPX_CONTENT = 4, /* lengths of masks, values, offsets or chunks disagree, a mask byte is over 01, the first offset is not
                         0, or offsets fall; a working table is not in rest form, or its cells overlap, leave the store, or
                         start elsewhere than at 0 with no bytes; a rights plane has not one byte a cell, or one over 01 */
-    DPX_SIZE = 5,    /* over 16,777,216 value bytes, or bytes of a store */
+    DPX_SIZE = 5,    /* over 8,589,934,592 value bytes, or over 16,777,216 bytes of a store */
     DPX_COVER = 12,  /* the subsets of a merge miss a cell or hold one twice */
     DPX_FIELD = 20,  /* an offset for an index of width 4, or a cell's length in the older form, is over 4,294,967,295 */
 
@@ -176,7 +177,7 @@ static inline const char *dpx_refusal_text(uint32_t refusal)
                              " 01, the first offset is not 0, or offsets fall (of a working table: it is not in rest form, or"
                              " cells overlap or lie where they must not; of a rights plane: it has not one byte for each cell,"
                              " or one is neither 00 nor 01)" DPX_SUPPLIER;
-    case DPX_SIZE: return "refusal 5: more than 16,777,216 value bytes, or bytes of a store" DPX_SUPPLIER;
+    case DPX_SIZE: return "refusal 5: more than 8,589,934,592 value bytes, or 16,777,216 bytes of a store" DPX_SUPPLIER;
     case DPX_OUTPUT: return "refusal 6: an output is shorter than the result needs" DPX_LENDER;
     case DPX_SHORT: return "refusal 7: too few stored bytes: a frame takes at least 16, ragged values 8, the interleaved form"
                            " 4 and 4 for each cell" DPX_STORER;
@@ -442,7 +443,7 @@ static inline dpx_cell dpx_table_cell(dpx_kind kind, uint64_t cells,
  *   4 DPX_CONTENT  whoever hands over the array: masks_len is not depth * cells; a mask byte is over 01, in packed kinds too
  *                  and below a null too; fixed: values_len is not cells * size, or there are offsets; ragged: offsets_len
  *                  is not cells + 1, the first is not 0, offsets fall, or the last is not values_len
- *   5 DPX_SIZE     whoever hands over the array: the last offset is over 16,777,216
+ *   5 DPX_SIZE     whoever hands over the array: the last offset is over 8,589,934,592
  *  20 DPX_FIELD    whoever hands over the array: in width 4 an offset that is written, laid from 0 over the values that are
  *                  left, is over 4,294,967,295
  *   6 DPX_OUTPUT   whoever lends the output: out_len is under the written length
@@ -486,7 +487,7 @@ uint32_t dpx_encode(dpx_kind kind,
  *   8 DPX_LENGTH   whoever stored the bytes: the index is longer than the bytes, or not width * (cells + 1); or the last
  *                  offset is not the count of data bytes
  *  10 DPX_FALLING  whoever stored the bytes: the first offset is not 0, or offsets fall
- *   5 DPX_SIZE     whoever hands over the array: the stored last offset is over 16,777,216
+ *   5 DPX_SIZE     whoever hands over the array: the stored last offset is over 8,589,934,592
  *   or of fixed ones:
  *   8 DPX_LENGTH   whoever stored the bytes: there are not cells * size bytes
  *   last:
@@ -515,7 +516,7 @@ uint32_t dpx_decode(dpx_kind kind,
  *   7 DPX_SHORT    whoever stored the bytes: under 4 * (1 + cells) bytes
  *   9 DPX_COUNT    whoever stored the bytes: the stored count is not `cells`
  *  11 DPX_PAST_END whoever stored the bytes: a length field or a cell runs past the end
- *   5 DPX_SIZE     whoever hands over the array: the cells sum up to over 16,777,216 bytes
+ *   5 DPX_SIZE     whoever hands over the array: the cells sum up to over 8,589,934,592 bytes
  *   6 DPX_OUTPUT   whoever lends the outputs
  */
 uint32_t dpx_decode_interleaved(uint64_t cells,
@@ -537,7 +538,7 @@ uint32_t dpx_decode_interleaved(uint64_t cells,
  *   1 DPX_KIND     whoever describes the table: also a depth above 0, and a fixed kind
  *   2 DPX_SHAPE    whoever describes the table
  *   4 DPX_CONTENT  whoever hands over the array: as for dpx_encode; so masks_len is 0
- *   5 DPX_SIZE     whoever hands over the array: the last offset is over 16,777,216
+ *   5 DPX_SIZE     whoever hands over the array: the last offset is over 8,589,934,592
  *  20 DPX_FIELD    whoever hands over the array: a cell has over 4,294,967,295 bytes, whatever the width is
  *   6 DPX_OUTPUT   whoever lends the output: out_len is under the written length
  */
@@ -621,7 +622,7 @@ uint32_t dpx_arrangement(uint64_t depth, uint64_t cells, uint64_t number,
  *   2 DPX_SHAPE    whoever describes the table
  *   3 DPX_SUBSET   whoever describes the table: subset_len is not 2 * shape_len, or start + length is over a side
  *   4 DPX_CONTENT  whoever hands over the array: as for dpx_encode
- *   5 DPX_SIZE     whoever hands over the array: the last offset is over 16,777,216
+ *   5 DPX_SIZE     whoever hands over the array: the last offset is over 8,589,934,592
  *   6 DPX_OUTPUT   whoever lends the outputs
  */
 uint32_t dpx_extract(dpx_kind kind,
@@ -657,7 +658,7 @@ uint32_t dpx_extract(dpx_kind kind,
  *                  shape, or a subset holds no cell
  *   4 DPX_CONTENT  whoever hands over the chunk list: lengths are not what the subsets and the last offsets say, a mask byte
  *                  is over 01, or of a chunk the first offset is not 0 or offsets fall
- *   5 DPX_SIZE     whoever hands over the chunk list: the cells of all chunks sum up to over 16,777,216 bytes
+ *   5 DPX_SIZE     whoever hands over the chunk list: the cells of all chunks sum up to over 8,589,934,592 bytes
  *  12 DPX_COVER    whoever hands over the chunk list: a cell is missed or held twice
  *   6 DPX_OUTPUT   whoever lends the outputs
  */
@@ -689,7 +690,7 @@ uint32_t dpx_merge(dpx_kind kind,
  *   7 DPX_SHORT    whoever stored the bytes: under 8 bytes
  *   8 DPX_LENGTH   whoever stored the bytes: index or data, as for dpx_decode
  *  10 DPX_FALLING  whoever stored the bytes: the first offset is not 0, or offsets fall
- *   5 DPX_SIZE     whoever hands over the array: the stored last offset is over 16,777,216
+ *   5 DPX_SIZE     whoever hands over the array: the stored last offset is over 8,589,934,592
  *   6 DPX_OUTPUT   whoever lends the outputs
  */
 uint32_t dpx_partial_decode(uint64_t width, uint64_t place,
@@ -746,7 +747,8 @@ uint32_t dpx_subset_cells(const uint64_t *shape, size_t shape_len,
  *   1 DPX_KIND     whoever describes the table: also a fixed kind
  *   2 DPX_SHAPE    whoever describes the table: no cells, or over 65,536
  *   4 DPX_CONTENT  whoever hands over the array: as for dpx_encode
- *   5 DPX_SIZE     whoever hands over the array or the store: the last offset is over 16,777,216, or store_len is
+ *   5 DPX_SIZE     whoever hands over the array or the store: the last offset is over 8,589,934,592, or store_len
+ *                  over 16,777,216
  *   6 DPX_OUTPUT   whoever lends the outputs: the store too, where the cells have more bytes than it
  */
 uint32_t dpx_table_make(dpx_kind kind, uint64_t cells,
@@ -892,7 +894,7 @@ uint32_t dpx_table_pack(dpx_kind kind, uint64_t cells,
  *  17 DPX_NO_MASKS whoever describes the table: depth 0, also of a fixed kind; the plane is not looked at
  *   4 DPX_CONTENT  whoever hands over the plane: rights_len is not the count of cells, or one of these bytes is over 01; or
  *                  whoever hands over the array: as for dpx_encode, hidden cells too
- *   5 DPX_SIZE     whoever hands over the array: the last offset is over 16,777,216, whatever is shown
+ *   5 DPX_SIZE     whoever hands over the array: the last offset is over 8,589,934,592, whatever is shown
  *   6 DPX_OUTPUT   whoever lends the outputs: one is shorter than what is shown
  */
 uint32_t dpx_guest_read(dpx_kind kind,

@@ -44,7 +44,7 @@ pub(crate) fn lend(
 ///
 /// # Errors
 ///
-/// In this order `Kind`, `Shape`, `Content`, `Size`.
+/// In this order `Kind`, `Shape`, `Content`, `Size`, `Field` (in width 4 an offset that is written is over 4,294,967,295).
 ///
 /// ```
 /// use durpaxeta::{encode, Array, Cell, Kind, Order};
@@ -166,7 +166,8 @@ pub fn decode_interleaved(cells: u64, bytes: &[u8]) -> Result<RaggedValues, Refu
 ///
 /// # Errors
 ///
-/// In this order `Kind` (also a depth above 0, and a fixed kind), `Shape`, `Content`, `Size`.
+/// In this order `Kind` (also a depth above 0, and a fixed kind), `Shape`, `Content`, `Size`, `Field` (a cell has over
+/// 4,294,967,295 bytes, whatever the width is).
 ///
 /// ```
 /// use durpaxeta::{encode_interleaved, Array, Cell, Kind, Order, Place, Refusal, Width};
@@ -339,7 +340,7 @@ impl<'a> Chunk<'a> {
         array.shape == self.subset.lengths()
             && array.masks.len() == sizes::masks(kind, cells)
             && array.offsets.len() == sizes::offsets(kind, cells)
-            && array.values.len() as u64 == sizes::values(kind, cells, last as usize) as u64
+            && usize::try_from(last).is_ok_and(|last| array.values.len() == sizes::values(kind, cells, last))
     }
 }
 

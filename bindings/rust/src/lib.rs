@@ -66,8 +66,8 @@ pub const MAX_SIZE: u64 = 64;
 pub const MAX_SIDES: usize = 4;
 /// Most cells of a shape.
 pub const MAX_CELLS: u64 = 65_536;
-/// Most value bytes of a table.
-pub const MAX_VALUE_BYTES: u64 = 16_777_216;
+/// Most value bytes of a table. On a target of 32 bits no slice is as long, and what is handed over can never be too much.
+pub const MAX_VALUE_BYTES: u64 = 8_589_934_592;
 /// Most bytes of a working table's store.
 pub const MAX_STORE: u64 = 16_777_216;
 /// Most cells that one [`Table::pack`] moves.

@@ -59,7 +59,7 @@ refusals! {
         "lengths of masks, values, offsets or chunks disagree, a mask byte is neither 00 nor 01, the first offset is not 0, or \
          offsets fall (of a working table: it is not in rest form, or cells overlap or lie where they must not; of a rights \
          plane: it has not one byte for each cell, or one is neither 00 nor 01)";
-    Size = 5, Supplier, "more than 16,777,216 value bytes, or bytes of a store";
+    Size = 5, Supplier, "more than 8,589,934,592 value bytes, or 16,777,216 bytes of a store";
     Output = 6, Lender, "an output is shorter than the result needs";
     Short = 7, Storer,
         "too few stored bytes: a frame takes at least 16, ragged values 8, the interleaved form 4 and 4 for each cell";
@@ -78,6 +78,8 @@ refusals! {
     Hidden = 18, Setter, "the rights plane hides that cell from the guest";
     Arrangement = 19, Numberer,
         "there is no arrangement of that number: there are depth + 4 to the power of the cells, numbered from 0";
+    Field = 20, Supplier,
+        "an offset for an index of 4 bytes, or the length of a cell of the interleaved form, is over 4,294,967,295";
 }
 
 /// Who causes a refusal.

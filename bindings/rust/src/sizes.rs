@@ -1,7 +1,8 @@
 //! How long the outputs must be, from the inputs alone.
 //!
 //! Where an input is wrong the archive refuses it before it looks at an output, so any length will do there: these
-//! functions then answer little or nothing, and never a number that the inputs do not bear out.
+//! functions then answer little or nothing, and never a number that the inputs do not bear out. So none is cut where a
+//! `usize` has 32 bits: bytes that are handed over lie in memory.
 
 use crate::{Kind, MaskForm, Room, Values, MAX_CELLS, MAX_DEPTH, MAX_SIDES, MAX_SIZE, MAX_VALUE_BYTES};
 
@@ -64,13 +65,9 @@ pub fn ragged_subset(shape: &[u64], subset: &[u64], values: &[u8], offsets: &[u6
     limited(sum).min(values.len())
 }
 
-/// A number of value bytes; 0 where it is over the limit.
+/// A number of value bytes; 0 where it is over the limit, or more than memory has addresses for.
 pub fn limited(bytes: u64) -> usize {
-    if bytes <= MAX_VALUE_BYTES {
-        bytes as usize
-    } else {
-        0
-    }
+    usize::try_from(bytes).ok().filter(|_| bytes <= MAX_VALUE_BYTES).unwrap_or(0)
 }
 
 /// Bytes of the interleaved form of that many cells; 0 where there are too many value bytes.
@@ -115,7 +112,7 @@ pub fn array(kind: Kind, cells: usize, bytes: usize) -> Room {
     }
     Room {
         masks: masks(kind, cells),
-        values: values(kind, cells, bytes.min(MAX_VALUE_BYTES as usize)),
+        values: values(kind, cells, (bytes as u64).min(MAX_VALUE_BYTES) as usize),
         offsets: offsets(kind, cells),
     }
 }

@@ -59,7 +59,10 @@ fn version_and_limits() {
         ("DPX_MAX_ARRANGED_DEPTH", MAX_ARRANGED_DEPTH),
         ("DPX_MAX_ARRANGED_CELLS", MAX_ARRANGED_CELLS),
     ] {
-        assert_eq!(macros[name], limit.to_string(), "{name}");
+        // A number that no int holds stands in the macro of its type.
+        let said =
+            macros[name].strip_prefix("UINT64_C(").and_then(|said| said.strip_suffix(')')).unwrap_or(macros[name]);
+        assert_eq!(said, limit.to_string(), "{name}");
     }
 }
 

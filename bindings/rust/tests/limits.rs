@@ -1,8 +1,9 @@
-//! The limits pass; one more of each is refused.
+//! The limits pass; one more of each is refused. That of value bytes is tried in long.rs; here are arrays of 16,777,216 value bytes,
+//! the limit up to version 0.9, and of one more, which pass as well.
 
 use durpaxeta::*;
 
-const MOST: usize = MAX_VALUE_BYTES as usize;
+const MOST: usize = 16_777_216;
 
 fn kind() -> Kind {
     Kind::ragged(0, Width::Eight, Place::Start)
@@ -41,9 +42,9 @@ fn interleaved(lengths: &[usize]) -> Vec<u8> {
 }
 
 #[test]
-fn byte_limit_of_encode() {
+fn a_long_encode() {
     assert_eq!(encode(&one(MOST)).as_ref(), Ok(&stored(Place::Start, MOST)));
-    assert_eq!(encode(&one(MOST + 1)), Err(Refusal::Size));
+    assert_eq!(encode(&one(MOST + 1)).as_ref(), Ok(&stored(Place::Start, MOST + 1)));
     // The lengths come first, and so does the first offset.
     assert_eq!(encode(&array(kind(), &[1], vec![], vec![], vec![0, MOST as u64 + 1])), Err(Refusal::Content));
     let late = array(kind(), &[1], vec![], value(MOST + 1), vec![1, MOST as u64 + 1]);
@@ -51,9 +52,9 @@ fn byte_limit_of_encode() {
 }
 
 #[test]
-fn byte_limit_of_encode_interleaved() {
+fn a_long_encode_interleaved() {
     assert_eq!(encode_interleaved(&one(MOST)).as_ref(), Ok(&interleaved(&[MOST])));
-    assert_eq!(encode_interleaved(&one(MOST + 1)), Err(Refusal::Size));
+    assert_eq!(encode_interleaved(&one(MOST + 1)).as_ref(), Ok(&interleaved(&[MOST + 1])));
     assert_eq!(
         encode_interleaved(&array(kind(), &[1], vec![], vec![], vec![0, MOST as u64 + 1])),
         Err(Refusal::Content)
@@ -63,12 +64,12 @@ fn byte_limit_of_encode_interleaved() {
 }
 
 #[test]
-fn byte_limit_of_decode() {
+fn a_long_decode() {
     for place in [Place::Start, Place::End] {
         let kind = Kind::ragged(0, Width::Eight, place);
         let read = decode(kind, &[1], &stored(place, MOST)).unwrap();
         assert_eq!((read.values, read.offsets), (value(MOST), vec![0, MOST as u64]));
-        assert_eq!(decode(kind, &[1], &stored(place, MOST + 1)), Err(Refusal::Size));
+        assert_eq!(decode(kind, &[1], &stored(place, MOST + 1)).unwrap().values, value(MOST + 1));
         // Inside a frame.
         let framed = |length: usize| {
             let content = stored(place, length);
@@ -76,41 +77,40 @@ fn byte_limit_of_decode() {
         };
         let kind = Kind::ragged(1, Width::Eight, place);
         assert_eq!(decode(kind, &[1], &framed(MOST)).unwrap().values, value(MOST));
-        assert_eq!(decode(kind, &[1], &framed(MOST + 1)), Err(Refusal::Size));
+        assert_eq!(decode(kind, &[1], &framed(MOST + 1)).unwrap().values, value(MOST + 1));
     }
-    // The first offset comes before the limit.
+    // A first offset above 0.
     let mut late = stored(Place::Start, MOST + 1);
     late[8] = 1;
     assert_eq!(decode(kind(), &[1], &late), Err(Refusal::Falling));
 }
 
 #[test]
-fn byte_limit_of_decode_interleaved() {
+fn a_long_decode_interleaved() {
     assert_eq!(decode_interleaved(1, &interleaved(&[MOST])).unwrap().values, value(MOST));
-    assert_eq!(decode_interleaved(1, &interleaved(&[MOST + 1])), Err(Refusal::Size));
+    assert_eq!(decode_interleaved(1, &interleaved(&[MOST + 1])).unwrap().values, value(MOST + 1));
     let two = decode_interleaved(2, &interleaved(&[MOST - 1, 1])).unwrap();
     assert_eq!(two.offsets, [0, MOST as u64 - 1, MOST as u64]);
-    assert_eq!(decode_interleaved(2, &interleaved(&[MOST, 1])), Err(Refusal::Size));
+    assert_eq!(decode_interleaved(2, &interleaved(&[MOST, 1])).unwrap().offsets, [0, MOST as u64, MOST as u64 + 1]);
     // A tail does not count.
     let tail = [interleaved(&[1]), value(MOST)].concat();
     assert_eq!(decode_interleaved(1, &tail).unwrap().values, value(1));
-    // A cell past the end comes before the limit.
+    // A cell past the end.
     let mut three = interleaved(&[MOST, 1]);
     three[0] = 3;
     assert_eq!(decode_interleaved(3, &three), Err(Refusal::PastEnd));
 }
 
 #[test]
-fn byte_limit_of_extract() {
+fn a_long_extract() {
     let whole = Subset::whole(&[1]);
     assert_eq!(extract(&one(MOST), &whole).unwrap(), one(MOST));
-    assert_eq!(extract(&one(MOST + 1), &whole), Err(Refusal::Size));
-    assert_eq!(extract(&one(MOST + 1), &Subset::new(&[1], &[0]).unwrap()), Err(Refusal::Size));
+    assert_eq!(extract(&one(MOST + 1), &whole).unwrap(), one(MOST + 1));
+    assert_eq!(extract(&one(MOST + 1), &Subset::new(&[1], &[0]).unwrap()).unwrap().values, []);
 }
 
-/// 5 goes by the whole array, what is hidden included; 17 and 4 of the plane come before it.
 #[test]
-fn byte_limit_of_guest_read() {
+fn a_long_guest_read() {
     let kind = Kind::ragged(1, Width::Eight, Place::Start);
     let two = |length: usize| {
         let offsets = vec![0, length as u64 - 1, length as u64];
@@ -120,15 +120,13 @@ fn byte_limit_of_guest_read() {
     assert_eq!(guest_read(&two(MOST), &all).as_ref(), Ok(&two(MOST)));
     let byte = value(MOST)[MOST - 1];
     assert_eq!(guest_read(&two(MOST), &last), Ok(array(kind, &[2], vec![0, 1], vec![byte], vec![0, 0, 1])));
-    for rights in [&all, &last] {
-        assert_eq!(guest_read(&two(MOST + 1), rights), Err(Refusal::Size));
-    }
+    assert_eq!(guest_read(&two(MOST + 1), &all).as_ref(), Ok(&two(MOST + 1)));
     assert_eq!(guest_read(&two(MOST + 1), &Rights::new(&[true])), Err(Refusal::Content));
     assert_eq!(guest_read(&one(MOST + 1), &Rights::new(&[])), Err(Refusal::NoMasks));
 }
 
 #[test]
-fn byte_limit_of_merge() {
+fn a_long_merge() {
     let (first, second) = (Subset::new(&[0], &[1]).unwrap(), Subset::new(&[1], &[1]).unwrap());
     let merged = |subsets: [&Subset; 2], lengths: [usize; 2]| {
         let (a, b) = (one(lengths[0]), one(lengths[1]));
@@ -138,17 +136,14 @@ fn byte_limit_of_merge() {
     let both = merged([&second, &first], [half, half]).unwrap();
     assert_eq!(both.offsets, [0, half as u64, MOST as u64]);
     assert_eq!(both.values, [value(half), value(half)].concat());
-    assert_eq!(merged([&second, &first], [half, half + 1]), Err(Refusal::Size));
-    // 5 goes by the sum also where the subsets overlap, and comes before 12.
-    assert_eq!(merged([&first, &first], [half, half]), Err(Refusal::Cover));
-    assert_eq!(merged([&first, &first], [half, half + 1]), Err(Refusal::Size));
-    // 4 comes before 5.
+    assert_eq!(merged([&second, &first], [half, half + 1]).unwrap().values, [value(half + 1), value(half)].concat());
+    assert_eq!(merged([&first, &first], [half, half + 1]), Err(Refusal::Cover));
     let late = array(kind(), &[1], vec![], value(MOST + 1), vec![MOST as u64, MOST as u64 + 1]);
     assert_eq!(merge(kind(), &[1], &[Chunk::new(&first, &late)]), Err(Refusal::Content));
 }
 
 #[test]
-fn byte_limit_of_a_fixed_merge() {
+fn a_long_fixed_merge() {
     let kind = Kind::fixed(0, 64, Order::Little);
     let (whole, cell) = (Subset::whole(&[65_536]), Subset::new(&[0], &[1]).unwrap());
     let all = array(kind, &[65_536], vec![], vec![1; 4_194_304], vec![]);
@@ -156,17 +151,17 @@ fn byte_limit_of_a_fixed_merge() {
     let mut chunks = vec![Chunk::new(&whole, &all); 4];
     assert_eq!(merge(kind, &[65_536], &chunks), Err(Refusal::Cover));
     chunks.push(Chunk::new(&cell, &one));
-    assert_eq!(merge(kind, &[65_536], &chunks), Err(Refusal::Size));
+    assert_eq!(merge(kind, &[65_536], &chunks), Err(Refusal::Cover));
 }
 
 #[test]
-fn byte_limit_of_partial_decode() {
+fn a_long_partial_decode() {
     for place in [Place::Start, Place::End] {
         let whole = Subset::whole(&[1]);
         let part = |length, subset| partial_decode(Width::Eight, place, &[1], subset, &stored(place, length));
         assert_eq!(part(MOST, &whole).unwrap().values, value(MOST));
-        assert_eq!(part(MOST + 1, &whole), Err(Refusal::Size));
-        assert_eq!(part(MOST + 1, &Subset::new(&[0], &[0]).unwrap()), Err(Refusal::Size));
+        assert_eq!(part(MOST + 1, &whole).unwrap().values, value(MOST + 1));
+        assert_eq!(part(MOST + 1, &Subset::new(&[0], &[0]).unwrap()).unwrap().values, []);
     }
 }
 
