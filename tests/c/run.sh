@@ -1,6 +1,6 @@
 #!/usr/bin/env bash
-# The C interface: compile with every warning an error, run, run under valgrind, run with the sanitizers; the header in
-# C99, C11, C++11 and C++17. Needs build/libdurpaxeta.a (make lib). Any failure ends the script with a status other than 0.
+# The C interface: compile with every warning an error, run, run under valgrind, run with the sanitizers, but for long arrays; the
+# header in C99, C11, C++11 and C++17. Needs build/libdurpaxeta.a (make lib). Any failure ends the script with a status other than 0.
 set -euo pipefail
 cd "$(dirname "$0")/../.."
 
@@ -46,6 +46,11 @@ for test in test table guests arrangements; do
     gcc -std=c11 -O2 "${warnings[@]}" -o "$out/$test" "tests/c/$test.c" "$lib"
     "$out/$test"
 done
+
+# Its gigabytes of addresses are nothing for valgrind and the sanitizers, which keep a shadow of them.
+echo "long arrays, in little memory"
+gcc -std=c11 -O2 "${warnings[@]}" -o "$out/long" tests/c/long.c "$lib"
+"$out/long"
 
 echo "stack"
 gcc -std=c11 -O2 "${warnings[@]}" -o "$out/stack" tests/c/stack.c "$lib"

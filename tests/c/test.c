@@ -187,7 +187,7 @@ static void test_encode(void)
     REFUSED(dpx_encode(r4, NUMBERS(1), NONE, TEXT("x"), NUMBERS(0, 1, 1), OUT1), DPX_CONTENT);
     REFUSED(dpx_encode(r4, NUMBERS(2), NONE, TEXT("ab"), NUMBERS(0, 3, 2), OUT1), DPX_CONTENT);
     REFUSED(dpx_encode(r4, NUMBERS(2), NONE, TEXT("ab"), NUMBERS(1, 0, 2), OUT1), DPX_CONTENT);
-    REFUSED(dpx_encode(dpx_ragged(0, 8, DPX_START), NUMBERS(1), NONE, NONE, NUMBERS(0, 16777217), OUT1), DPX_CONTENT);
+    REFUSED(dpx_encode(dpx_ragged(0, 8, DPX_START), NUMBERS(1), NONE, NONE, NUMBERS(0, DPX_MAX_VALUE_BYTES + 1), OUT1), DPX_CONTENT);
     REFUSED(dpx_encode(f1, NUMBERS(1), NONE, TEXT("a"), NONE, OUT1), DPX_OUTPUT);
     release();
 }
@@ -872,28 +872,22 @@ static void put(uint8_t *at, uint64_t number, size_t width)
         at[i] = (uint8_t)(number >> (8 * i));
 }
 
-static void test_byte_limit(void)
+/* 16,777,216 value bytes pass, and one more, which was too many once. What is too many is in long.c. */
+static void long_values(size_t most)
 {
-    const size_t most = DPX_MAX_VALUE_BYTES, cells = DPX_MAX_CELLS, empty = 4 * cells, frame = 17, room = 5 * frame + most + 25;
-    const dpx_kind kind = dpx_ragged(0, 8, DPX_START), masked = dpx_ragged(1, 8, DPX_START), deep = dpx_ragged(5, 8, DPX_START);
-    const uint64_t one[1] = {1}, two[1] = {2}, whole[2] = {0, 1}, twice[4] = {0, 1, 0, 1}, past[2] = {0, 2};
-    const uint64_t five[5] = {1, 1, 1, 1, 1}, all_five[10] = {0, 0, 0, 0, 0, 1, 1, 1, 1, 1};
-    const uint8_t set[5] = {1, 1, 1, 1, 1}, neither = 2;
-    /* `stored` ends with its block; before it there is room for frames, and for a string with a cell more than a shape may have. */
-    uint8_t *values = block(most + 1), *wide = block(most + 9 + empty), *stored = wide + empty - 16, *back = block(room), *outer;
-    uint8_t masks[5] = {FILL, FILL, FILL, FILL, FILL};
-    uint64_t *many = block(8 * (cells + 2));
-    uint64_t offsets[2] = {0, DPX_MAX_VALUE_BYTES}, chunks[4] = {0, 8388608, 0, 8388608}, got[3] = {7, 7, 7}, lengths[3] = {7, 7, 7};
-    const uint64_t longer[3] = {0, most + 1, most + 1}, late[2] = {1, most + 1};
+    const dpx_kind kind = dpx_ragged(0, 8, DPX_START), masked = dpx_ragged(1, 8, DPX_START);
+    const uint64_t one[1] = {1}, two[1] = {2}, whole[2] = {0, 1}, halves[4] = {1, 1, 0, 1}, offsets[2] = {0, most};
+    const uint64_t chunks[4] = {0, most / 2, 0, most - most / 2};
+    const uint8_t set = 1, neither = 2;
+    uint8_t *values = block(most + 1), *stored = block(most + 42), *back = block(most + 42), mask = FILL;
+    uint64_t got[3] = {7, 7, 7}, lengths[3] = {7, 7, 7};
     size_t i;
 
     for (i = 0; i < most + 1; i++)
         values[i] = (uint8_t)(i * 7 + (i >> 8));
-    memset(wide, FILL, most + 9 + empty);
-    memset(back, FILL, room);
-    memset(many, FILL, 8 * (cells + 2));
+    memset(stored, FILL, most + 42);
+    memset(back, FILL, most + 42);
 
-    /* 16,777,216 value bytes pass. */
     ANSWERS(dpx_encode(kind, one, 1, NONE, values, most, offsets, 2, stored, most + 24, lengths), DPX_OK);
     CHECK(lengths[0] == most + 24 && lengths[1] == 7 && stored[most + 24] == FILL);
     ANSWERS(dpx_decode(kind, one, 1, stored, most + 24, NONE, back, most, got, 2, lengths), DPX_OK);
@@ -908,6 +902,10 @@ static void test_byte_limit(void)
     memset(back, FILL, most);
     ANSWERS(dpx_merge(kind, one, 1, whole, 2, NONE, values, most, offsets, 2, NONE, back, most, got, 2, lengths), DPX_OK);
     CHECK(lengths[1] == most && lengths[2] == 2 && memcmp(values, back, most) == 0 && back[most] == FILL);
+    memset(back, FILL, most);
+    ANSWERS(dpx_merge(kind, two, 1, halves, 4, NONE, values, most, chunks, 4, NONE, back, most, got, 3, lengths), DPX_OK);
+    CHECK(lengths[1] == most && got[1] == most - most / 2 && memcmp(values, back + got[1], most / 2) == 0 && back[most] == FILL);
+    CHECK(memcmp(values + most / 2, back, got[1]) == 0);
     put(stored, 1, 4);
     put(stored + 4, most, 4);
     memcpy(stored + 8, values, most + 1);
@@ -917,91 +915,20 @@ static void test_byte_limit(void)
     memset(back, FILL, most);
     ANSWERS(dpx_encode_interleaved(kind, one, 1, NONE, values, most, offsets, 2, back, most + 8, lengths), DPX_OK);
     CHECK(lengths[0] == most + 8 && memcmp(stored, back, most + 8) == 0 && back[most + 8] == FILL);
-    memset(back, FILL, most + 8);
-
-    /* One more is 5: before 12 and 6, after all else. Of each call at most one other refusal holds. No lent byte changes. */
-#define BACK2 back, most + 1, got, 2, lengths
-#define BACK3 masks, 5, BACK2
+    ANSWERS(dpx_encode(masked, one, 1, &neither, 1, values, most, offsets, 2, back, most + 41, lengths), DPX_CONTENT);
+    ANSWERS(dpx_encode(masked, one, 1, &set, 1, values, most, offsets, 2, back, most + 41, lengths), DPX_OK);
+    CHECK(lengths[0] == most + 41 && back[most + 41] == FILL);
+    memcpy(stored, back, most + 41);
     memset(back, FILL, most);
-    got[0] = got[1] = lengths[0] = lengths[1] = lengths[2] = 7;
-    put(stored + 4, most + 1, 4);
-    ANSWERS(dpx_decode_interleaved(1, stored, most + 9, BACK2), DPX_SIZE);
-    ANSWERS(dpx_decode_interleaved(1, stored, most + 9, NONE, NONE, lengths), DPX_SIZE);
-    put(stored, 2, 4);
-    ANSWERS(dpx_decode_interleaved(1, stored, most + 9, BACK2), DPX_COUNT);
-    ANSWERS(dpx_decode_interleaved(2, stored, most + 9, back, most + 1, got, 3, lengths), DPX_PAST_END);
-
-    put(stored, 16, 8);
-    put(stored + 8, 0, 8);
-    put(stored + 16, most + 1, 8);
-    memcpy(stored + 24, values, most + 1);
-    ANSWERS(dpx_decode(kind, one, 1, stored, most + 25, BACK3), DPX_SIZE);
-    ANSWERS(dpx_decode(kind, one, 1, stored, most + 25, NONE, NONE, NONE, lengths), DPX_SIZE);
-    ANSWERS(dpx_decode(kind, five, 5, stored, most + 25, BACK3), DPX_SHAPE);
-    ANSWERS(dpx_partial_decode(8, DPX_START, one, 1, whole, 2, stored, most + 25, BACK2), DPX_SIZE);
-    ANSWERS(dpx_partial_decode(8, DPX_START, one, 1, whole, 2, stored, most + 25, NONE, NONE, lengths), DPX_SIZE);
-    ANSWERS(dpx_partial_decode(256 + 8, DPX_START, one, 1, whole, 2, stored, most + 25, BACK2), DPX_KIND);
-    ANSWERS(dpx_partial_decode(8, DPX_START, five, 5, all_five, 10, stored, most + 25, BACK2), DPX_SHAPE);
-    ANSWERS(dpx_partial_decode(8, DPX_START, one, 1, past, 2, stored, most + 25, BACK2), DPX_SUBSET);
-    for (i = 0; i < 5; i++) {
-        outer = stored - (i + 1) * frame;
-        put(outer, 1, 8);
-        put(outer + 8, most + 25 + i * frame, 8);
-        outer[16] = 1;
-    }
-    ANSWERS(dpx_decode(dpx_ragged(4, 8, DPX_START), one, 1, stored - 4 * frame, most + 25 + 4 * frame, BACK3), DPX_SIZE);
-    ANSWERS(dpx_decode(deep, one, 1, outer, most + 25 + 5 * frame, BACK3), DPX_KIND);
-    put(stored + 8, 1, 8);
-    ANSWERS(dpx_decode(kind, one, 1, stored, most + 25, BACK3), DPX_FALLING);
-    ANSWERS(dpx_partial_decode(8, DPX_START, one, 1, whole, 2, stored, most + 25, BACK2), DPX_FALLING);
-
-    put(wide, cells, 4);
-    put(wide + 4, most + 1, 4);
-    memset(wide + most + 9, 0, empty);
-    ANSWERS(dpx_decode_interleaved(cells, wide, most + 9 + empty, back, most + 1, many, cells + 1, lengths), DPX_SIZE);
-    put(wide, cells + 1, 4);
-    ANSWERS(dpx_decode_interleaved(cells + 1, wide, most + 9 + empty, back, most + 1, many, cells + 2, lengths), DPX_SHAPE);
-
-    offsets[1] = most + 1;
-    ANSWERS(dpx_encode(kind, one, 1, NONE, values, most + 1, offsets, 2, back, room, lengths), DPX_SIZE);
-    ANSWERS(dpx_encode(kind, one, 1, NONE, values, most + 1, offsets, 2, NONE, lengths), DPX_SIZE);
-    ANSWERS(dpx_encode_interleaved(kind, one, 1, NONE, values, most + 1, offsets, 2, back, room, lengths), DPX_SIZE);
-    ANSWERS(dpx_encode_interleaved(kind, one, 1, NONE, values, most + 1, offsets, 2, NONE, lengths), DPX_SIZE);
-    ANSWERS(dpx_encode_interleaved(deep, one, 1, set, 5, values, most + 1, offsets, 2, back, room, lengths), DPX_KIND);
-    ANSWERS(dpx_encode_interleaved(kind, five, 5, NONE, values, most + 1, offsets, 2, back, room, lengths), DPX_SHAPE);
-    ANSWERS(dpx_encode_interleaved(kind, one, 1, NONE, values, most + 1, late, 2, back, room, lengths), DPX_CONTENT);
-    ANSWERS(dpx_encode(deep, one, 1, set, 5, values, most + 1, offsets, 2, back, room, lengths), DPX_KIND);
-    ANSWERS(dpx_encode(kind, five, 5, NONE, values, most + 1, offsets, 2, back, room, lengths), DPX_SHAPE);
-    ANSWERS(dpx_encode(kind, one, 1, NONE, values, most + 1, late, 2, back, room, lengths), DPX_CONTENT);
-
-    ANSWERS(dpx_extract(kind, one, 1, whole, 2, NONE, values, most + 1, offsets, 2, BACK3), DPX_SIZE);
-    ANSWERS(dpx_extract(kind, one, 1, whole, 2, NONE, values, most + 1, offsets, 2, NONE, NONE, NONE, lengths), DPX_SIZE);
-    ANSWERS(dpx_extract(deep, one, 1, whole, 2, set, 5, values, most + 1, offsets, 2, BACK3), DPX_KIND);
-    ANSWERS(dpx_extract(kind, five, 5, all_five, 10, NONE, values, most + 1, offsets, 2, BACK3), DPX_SHAPE);
-    ANSWERS(dpx_extract(kind, one, 1, past, 2, NONE, values, most + 1, offsets, 2, BACK3), DPX_SUBSET);
-    ANSWERS(dpx_extract(kind, one, 1, whole, 2, NONE, values, most + 1, late, 2, BACK3), DPX_CONTENT);
-
-    ANSWERS(dpx_merge(kind, one, 1, whole, 2, NONE, values, most + 1, offsets, 2, BACK3), DPX_SIZE);
-    ANSWERS(dpx_merge(kind, one, 1, whole, 2, NONE, values, most + 1, offsets, 2, NONE, NONE, NONE, lengths), DPX_SIZE);
-    ANSWERS(dpx_merge(deep, one, 1, whole, 2, set, 5, values, most + 1, offsets, 2, BACK3), DPX_KIND);
-    ANSWERS(dpx_merge(kind, five, 5, all_five, 10, NONE, values, most + 1, offsets, 2, BACK3), DPX_SHAPE);
-    ANSWERS(dpx_merge(kind, one, 1, past, 2, NONE, values, most + 1, longer, 3, BACK3), DPX_SUBSET);
-    ANSWERS(dpx_merge(kind, one, 1, whole, 2, set, 1, values, most + 1, offsets, 2, BACK3), DPX_CONTENT);
-    ANSWERS(dpx_merge(kind, one, 1, whole, 2, NONE, values, most + 1, late, 2, BACK3), DPX_CONTENT);
-    /* 4 of a mask byte comes before 5. */
-    ANSWERS(dpx_encode(masked, one, 1, &neither, 1, values, most + 1, offsets, 2, back, room, lengths), DPX_CONTENT);
-    ANSWERS(dpx_extract(masked, one, 1, whole, 2, &neither, 1, values, most + 1, offsets, 2, BACK3), DPX_CONTENT);
-    ANSWERS(dpx_merge(masked, one, 1, whole, 2, &neither, 1, values, most + 1, offsets, 2, BACK3), DPX_CONTENT);
-    ANSWERS(dpx_encode(masked, one, 1, set, 1, values, most + 1, offsets, 2, back, room, lengths), DPX_SIZE);
-    /* 5 comes before 12. */
-    ANSWERS(dpx_merge(kind, two, 1, twice, 4, NONE, values, most, chunks, 4, NONE, back, most + 1, got, 3, lengths), DPX_COVER);
-    chunks[3]++;
-    ANSWERS(dpx_merge(kind, two, 1, twice, 4, NONE, values, most + 1, chunks, 4, NONE, back, most + 1, got, 3, lengths), DPX_SIZE);
-    CHECK(filled(back, room) && filled(masks, 5) && filled((const uint8_t *)many, 8 * (cells + 2)));
-    CHECK(got[0] == 7 && got[1] == 7 && got[2] == 7 && lengths[0] == 7 && lengths[1] == 7 && lengths[2] == 7);
-#undef BACK2
-#undef BACK3
+    ANSWERS(dpx_decode(masked, one, 1, stored, most + 41, &mask, 1, back, most, got, 2, lengths), DPX_OK);
+    CHECK(mask == 1 && lengths[1] == most && memcmp(values, back, most) == 0);
     release();
+}
+
+static void test_long_values(void)
+{
+    long_values(16777216);
+    long_values(16777217);
 }
 
 /* Copies of so many bytes are made in other ways: from 257 bytes to 1,048,576 the archive calls memmove. */
@@ -1087,7 +1014,7 @@ int main(void)
     test_partial();
     test_reverse();
     test_subset_cells();
-    test_byte_limit();
+    test_long_values();
     test_copies();
     test_limits();
     release();
