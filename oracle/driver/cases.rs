@@ -13,6 +13,8 @@ pub trait Sink {
     fn asked(&self) -> u64;
     /// Whether the requests to come have a damaged copy of a stored string, one that differs from it.
     fn damaged(&mut self, _damaged: bool) {}
+    /// Long arrays, which are no requests: they are only lent.
+    fn long(&mut self) {}
 }
 
 // ---------------------------------------------------------------- kinds, shapes, subsets
@@ -1332,7 +1334,8 @@ fn blocks(sink: &mut dyn Sink, rng: &mut Rng) {
 
 // ---------------------------------------------------------------- large
 
-pub const LIMIT: usize = 16_777_216;
+/// The limit of value bytes as it was once, and that of a store. What is longer by far is in long.rs.
+pub const ONCE: usize = 16_777_216;
 
 /// 65,536 cells in each call.
 fn many_cells(sink: &mut dyn Sink, rng: &mut Rng) {
@@ -1412,10 +1415,10 @@ fn many_cells(sink: &mut dyn Sink, rng: &mut Rng) {
     }
 }
 
-/// 16,777,216 value bytes in each call, and one more.
+/// 16,777,216 value bytes in each call, and one more, which is no limit any more.
 fn many_bytes(sink: &mut dyn Sink, rng: &mut Rng) {
-    let bulk = rng.bytes(LIMIT + 1);
-    for bytes in [LIMIT, LIMIT + 1] {
+    let bulk = rng.bytes(ONCE + 1);
+    for bytes in [ONCE, ONCE + 1] {
         let values = &bulk[..bytes];
         let end = bytes as u64;
         let whole = Content { masks: vec![], values: values.to_vec(), offsets: vec![0, end] };
@@ -1423,7 +1426,6 @@ fn many_bytes(sink: &mut dyn Sink, rng: &mut Rng) {
         let kind = ragged(0, 8, 0);
         sink.ask(encode(kind, &[1], &whole));
         sink.ask(encode(ragged(1, 4, 1), &[1], &Content { masks: vec![1], ..whole.clone() }));
-        // 4 before 5
         let bad = Content { masks: vec![2], ..whole.clone() };
         sink.ask(encode(ragged(1, 4, 1), &[1], &bad));
         sink.ask(extract(ragged(1, 4, 1), &[1], &[1, 0], &bad));
@@ -1439,7 +1441,7 @@ fn many_bytes(sink: &mut dyn Sink, rng: &mut Rng) {
         sink.ask(extract(kind, &[1], &[1, 0], &late));
         sink.ask(merge(kind, &[1], &[(vec![0, 1], late)]));
         sink.ask(merge(kind, &[2], &[(vec![0, 1], whole.clone())]));
-        let (a, b) = (LIMIT / 2, bytes - LIMIT / 2);
+        let (a, b) = (ONCE / 2, bytes - ONCE / 2);
         for subsets in [vec![0, 1, 1, 1], vec![0, 1, 0, 1]] {
             for second in [0, 1] {
                 let c = Content { masks: vec![], values: values.to_vec(), offsets: vec![0, a as u64, second, b as u64] };
@@ -1447,7 +1449,7 @@ fn many_bytes(sink: &mut dyn Sink, rng: &mut Rng) {
             }
         }
         for (width, place) in [(4, 0), (8, 1)] {
-            // a first offset above 0, and one that falls: 10, also where the last offset is over the limit
+            // a first offset above 0, and one that falls: 10
             for offsets in [[0, end], [1, end], [end, end], [end + 1, end]] {
                 let s = ragged_string(width, place, &offsets, values);
                 sink.ask(decode(ragged(0, width, place), &[1], &s));
@@ -1468,7 +1470,7 @@ fn many_bytes(sink: &mut dyn Sink, rng: &mut Rng) {
         sink.ask(DecodeInterleaved { cells: 2, bytes: s });
         sink.ask(ReverseEndianness { size: 8, bytes: values.to_vec() });
     }
-    // cells × size over all subsets: four times the whole shape is the limit
+    // cells × size over all subsets: four times the whole shape is as much, and a cell more
     let kind = fixed(0, 64, 0);
     let whole = content(rng, kind, 65_536);
     let mut list = vec![(vec![0, 65_536], whole); 4];
@@ -1707,6 +1709,7 @@ pub fn all(sink: &mut dyn Sink, seed: u64, requests: u64) {
     }
     arrangements::every(sink);
     arrangements::limits(sink);
+    sink.long();
     guests::limits(sink, guests);
     guests::exhaustive(sink, guests);
     guests::blocks(sink, guests);

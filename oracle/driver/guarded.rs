@@ -124,7 +124,7 @@ unsafe extern "C" {
 
 /// The archive's calls under guard.
 pub struct Guarded {
-    archive: Archive,
+    pub archive: Archive,
     numbers: [Edge; 3],
     bytes: [Edge; 4],
     masks: Lent<u8>,

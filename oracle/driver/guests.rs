@@ -2,7 +2,7 @@
 //! rules, every size of a cell, and random ones; and for a read another array that the guest cannot tell from the one it reads.
 
 use crate::cases::{
-    Content, LIMIT, NUMBERS, RAGGED, Sink, a_number, any_kind, any_shape, ask_with_faults, cells_of, content, damaged_content,
+    Content, NUMBERS, ONCE, RAGGED, Sink, a_number, any_kind, any_shape, ask_with_faults, cells_of, content, damaged_content,
     damaged_kind, damaged_numbers, fixed, lists, over_01, plane, ragged, shape_of, spoilt,
 };
 use crate::request::Request::{self, *};
@@ -53,7 +53,7 @@ fn planes(rng: &mut Rng, cells: usize) -> Vec<Vec<u8>> {
 pub fn twin(rng: &mut Rng, request: &Request) -> Request {
     let GuestRead { kind, shape, rights, masks, values, offsets } = request else { unreachable!() };
     let (cells, few) = (rights.len(), rng.pick(&[1, 1, 4]));
-    let mut room = LIMIT.saturating_sub(values.len());
+    let mut room = ONCE.saturating_sub(values.len());
     let mut c = Content { masks: masks.clone(), values: vec![], offsets: vec![] };
     c.offsets.extend(offsets.first());
     for cell in 0..cells {
@@ -212,7 +212,7 @@ pub fn blocks(sink: &mut dyn Sink, rng: &mut Rng) {
     }
 }
 
-/// 65,536 cells, 16,777,216 value bytes and the longest store, and one more of each. 5 goes by the whole array, 6 by what is shown.
+/// 65,536 cells and the longest store, and one more of each; 16,777,216 value bytes, and one more, which is no limit any more. 6 goes by what is shown.
 pub fn large(sink: &mut dyn Sink, rng: &mut Rng) {
     for (shape, kind) in [
         (vec![65_536], fixed(4, 64, 1)),
@@ -233,13 +233,12 @@ pub fn large(sink: &mut dyn Sink, rng: &mut Rng) {
         sink.ask(read(kind, &[65_537], &plane(rng, cells + 1), &content(rng, kind, cells + 1)));
     }
     let kind = ragged(1, 8, 0);
-    for bytes in [LIMIT, LIMIT + 1] {
+    for bytes in [ONCE, ONCE + 1] {
         let end = bytes as u64;
         let c = Content { masks: vec![1, 1], values: rng.bytes(bytes), offsets: vec![0, 1, end] };
         for rights in [[1, 0], [0, 1], [0, 0], [1, 1], [1, 2]] {
             sink.ask(read(kind, &[2], &rights, &c));
         }
-        // 4 before 5
         sink.ask(read(kind, &[2], &[1, 0], &Content { masks: vec![1, 2], ..c.clone() }));
         sink.ask(read(kind, &[2], &[1, 0], &Content { offsets: vec![0, 1, end - 1], ..c }));
     }

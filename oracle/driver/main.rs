@@ -1,6 +1,7 @@
 //! The comparison. One driver feeds the archive, the judge and the Rust the same requests.
 //!
 //!   driver compare OBJECT SEED REQUESTS [--first]   compare; --first: end at the first difference
+//!   driver long OBJECT                              only the long arrays of that
 //!   driver lines OBJECT FILE...                     hold the archive and the judge to recorded lines, and the Rust in its domain
 //!   driver show SEED REQUEST                        the line of the request with this number
 //!   driver ask                                      lines with requests in, what the judge and the Rust answer out
@@ -16,6 +17,7 @@ mod guarded;
 mod guests;
 mod hidden;
 mod lines;
+mod long;
 mod record;
 mod request;
 mod rng;
@@ -137,7 +139,7 @@ struct Guests {
     parts: u64,
 }
 const MASKS: [&str; 3] = ["no masks", "masks of bytes", "packed masks"];
-const ANSWERS: usize = 20;
+const ANSWERS: usize = 21;
 #[derive(Default)]
 struct Counts {
     requests: [[u64; ANSWERS]; CALLS.len()],
@@ -153,6 +155,8 @@ struct Counts {
     tables: Tables,
     guests: Guests,
     arranged: Arranged,
+    /// Requests of long arrays, which are in no other count.
+    long: u64,
     /// By mask form, as in MASKS.
     again: [Again; 3],
     /// Requests that each build of the Rust answered: by its own function, as ragged cells, as the rest form.
@@ -197,10 +201,21 @@ impl Compare {
     }
 
     fn differ(&mut self, between: usize, request: &Request, what: &str) {
+        self.differ_in(between, request.call(), what, &shown(request));
+    }
+
+    fn differ_in(&mut self, between: usize, call: usize, what: &str, request: &str) {
         self.counts.differences[between] += 1;
         if self.counts.differences[between] <= 10 {
-            println!("difference between {}: {}: {what}", BETWEEN[between], CALLS[request.call()]);
-            println!("    {}", shown(request));
+            println!("difference between {}: {}: {what}", BETWEEN[between], CALLS[call]);
+            println!("    {request}");
+        }
+    }
+
+    /// The archive answered.
+    fn called(&mut self, call: usize, answer: u32) {
+        if (answer as usize) < ANSWERS {
+            self.counts.calls[call][answer as usize] += 1;
         }
     }
 
@@ -214,9 +229,7 @@ impl Compare {
         let answer = self.guarded.call(request, lent);
         let number = expected.as_ref().err().copied().unwrap_or(0);
         let fault = self.guarded.fault(request, expected);
-        if (answer as usize) < ANSWERS {
-            self.counts.calls[request.call()][answer as usize] += 1;
-        }
+        self.called(request.call(), answer);
         if answer != number {
             self.differ(0, request, &format!("answer {answer}, not {number}, with outputs of {lent:?}"));
         } else if let Some(fault) = fault {
@@ -457,6 +470,10 @@ impl Compare {
         self.edited_on_a_copy(request, &observed);
         self.rights_combined(request, judged);
         self.arranged(request, &observed);
+        self.stop_if_asked();
+    }
+
+    fn stop_if_asked(&self) {
         if self.stop_at_first && self.counts.differences != [0; BETWEEN.len()] {
             let seen: Vec<&str> = (0..BETWEEN.len()).filter(|&i| self.counts.differences[i] > 0).map(|i| BETWEEN[i]).collect();
             println!("first difference at request {}: {}", self.asked(), seen.join(", "));
@@ -480,10 +497,10 @@ impl Compare {
             let cells: String = sums[1..].iter().map(|n| format!("{n:>8}")).collect();
             println!("{:<20}{:>9}{cells}{:>9}", "all", sums[0], sums.iter().sum::<u64>());
         }
-        println!("\nwhat the Rust gives where 7 to 11 are due, errors / panics:");
-        println!("{:<26}{}", "", [7, 8, 9, 10, 11].map(|n| format!("{n:>17}")).concat());
+        println!("\nwhat the Rust gives where 7 to 11 and 20 are due, errors / panics:");
+        println!("{:<26}{}", "", [7, 8, 9, 10, 11, 20].map(|n| format!("{n:>17}")).concat());
         for (at, build) in BUILDS.iter().enumerate() {
-            let cells = [7, 8, 9, 10, 11].map(|n| {
+            let cells = [7, 8, 9, 10, 11, 20].map(|n| {
                 let [errors, panics] = self.counts.refused[at][n];
                 format!("{:>17}", format!("{errors} / {panics}"))
             });
@@ -495,6 +512,7 @@ impl Compare {
             self.counts.packed,
             self.guarded.calls
         );
+        println!("long arrays, around 4,294,967,295 and 8,589,934,592 value bytes: {} requests beside these", self.counts.long);
         println!("loads of {} different kinds, shapes and start numbers", self.counts.loads.len());
         let Tables { settings, packings, moved, previews, cells } = self.counts.tables;
         println!(
@@ -618,6 +636,9 @@ impl Sink for Compare {
     fn damaged(&mut self, damaged: bool) {
         self.damaged = damaged;
     }
+    fn long(&mut self) {
+        self.long_arrays();
+    }
 }
 
 fn compare(args: &[String]) -> Result<bool, String> {
@@ -630,6 +651,13 @@ fn compare(args: &[String]) -> Result<bool, String> {
     cases::all(&mut compare, seed, requests);
     let good = compare.report(clock.elapsed().as_secs_f64());
     Ok(compare.all_met() && good)
+}
+
+fn long(args: &[String]) -> Result<bool, String> {
+    let [object] = args else { return Err("long OBJECT".into()) };
+    let mut compare = Compare::new(object, 1)?;
+    compare.long_arrays();
+    Ok(compare.report(0.0))
 }
 
 fn hold_lines(args: &[String]) -> Result<bool, String> {
@@ -724,11 +752,12 @@ fn main() {
     let args: Vec<String> = std::env::args().skip(1).collect();
     let done = match args.first().map(String::as_str) {
         Some("compare") => compare(&args[1..]),
+        Some("long") => long(&args[1..]),
         Some("lines") => hold_lines(&args[1..]),
         Some("show") => show(&args[1..]),
         Some("ask") => ask(),
         Some("record") => record::record(&args[1..]),
-        _ => Err("compare, lines, show, ask or record".into()),
+        _ => Err("compare, long, lines, show, ask or record".into()),
     };
     match done {
         Ok(good) => std::process::exit(i32::from(!good)),

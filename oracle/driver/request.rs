@@ -51,7 +51,7 @@ pub const CALLS: [&str; 18] = [
 /// The refusals that a call can give, by docs/DECISIONS.md, part 0. At the C boundary width and place come as numbers, so
 /// `partial_decode` has 1 as well.
 pub const REFUSALS: [&[u32]; 18] = [
-    &[1, 2, 4, 5, 6],
+    &[1, 2, 4, 5, 20, 6],
     &[1, 2, 7, 8, 13, 14, 10, 5, 6],
     &[2, 7, 9, 11, 5, 6],
     &[1, 2, 3, 4, 5, 6],
@@ -59,7 +59,7 @@ pub const REFUSALS: [&[u32]; 18] = [
     &[1, 2, 3, 7, 8, 10, 5, 6],
     &[1],
     &[2, 3, 6],
-    &[1, 2, 4, 5, 6],
+    &[1, 2, 4, 5, 20, 6],
     &[1, 2, 6],
     &[1, 2, 4, 5, 6],
     &[1, 2, 4, 5, 6],
@@ -209,7 +209,8 @@ impl Request {
     pub fn judged(&self) -> Outcome {
         match self {
             Encode { kind, shape, masks, values, offsets } => {
-                judge::encode(*kind, shape, masks, values, offsets).map(|values| Results { values, ..Results::default() })
+                let stored = judge::encode(*kind, shape, masks, values, offsets);
+                stored.map(|pieces| Results { values: pieces.concat(), ..Results::default() })
             }
             Decode { kind, shape, bytes } => judge::decode(*kind, shape, bytes).map(Results::from),
             DecodeInterleaved { cells, bytes } => judge::decode_interleaved(*cells, bytes).map(Results::from),
@@ -230,7 +231,7 @@ impl Request {
             }
             EncodeInterleaved { kind, shape, masks, values, offsets } => {
                 let stored = judge::encode_interleaved(*kind, shape, masks, values, offsets);
-                stored.map(|values| Results { values, ..Results::default() })
+                stored.map(|pieces| Results { values: pieces.concat(), ..Results::default() })
             }
             Generate { kind, shape, start } => judge::generate(*kind, shape, *start).map(Results::from),
             TableMake { kind, cells, masks, values, offsets, store } => {

@@ -79,6 +79,11 @@ pub fn body(request: &Request) -> Body {
 }
 
 impl Build {
+    /// An array that is lent, and never copied here, to bytes.
+    pub fn written(&self, kind: [u64; 4], shape: &[u64], masks: &[u8], values: &[u8], offsets: &[u64]) -> Got<Vec<u8>> {
+        (self.encode)(kind, shape, masks, values, offsets)
+    }
+
     /// Only for requests in the domain of the comparison: none of 1 to 6, 12 and 14 holds, and no bytes are hidden.
     pub fn answer(&self, request: &Request) -> Got<Results> {
         match request {

@@ -78,12 +78,17 @@ unsafe fn deliver_two(
 }
 
 /// Written bytes into one lent output.
-unsafe fn deliver_bytes(bytes: Result<Vec<u8>, Refusal>, out: (*mut u8, usize), lengths: *mut u64) -> u32 {
+unsafe fn deliver_bytes(pieces: Result<Vec<Value<'_>>, Refusal>, out: (*mut u8, usize), lengths: *mut u64) -> u32 {
     number((|| unsafe {
-        let bytes = bytes?;
-        fits(&[bytes.len()], &[out.1])?;
-        put(&bytes, out.0);
-        put(&[bytes.len() as u64], lengths);
+        let pieces = pieces?;
+        let bytes = length_of(&pieces);
+        fits(&[bytes], &[out.1])?;
+        let mut at = 0;
+        for piece in &pieces {
+            put(piece, out.0.add(at));
+            at += piece.len();
+        }
+        put(&[bytes as u64], lengths);
         Ok(())
     })())
 }

@@ -2,13 +2,18 @@
 //!
 //! Each function takes what the call takes, as numbers and slices, and gives the result or the refusal number. Outputs are not lent:
 //! `fits` says where a lent output is too short (6), and c.rs puts a result into lent outputs.
-//! The judge is there to be held against the papers: it allocates and copies as it likes, and lengths that could leave 64 bits are added in 128.
+//! The judge is there to be held against the papers: it allocates and copies as it likes, but no value that is not in the result, so that
+//! long arrays can be asked for; and lengths that could leave 64 bits are added in 128.
+
+use std::borrow::{Borrow, Cow};
 
 pub const MAX_DEPTH: u64 = 4;
 pub const MAX_SIZE: u64 = 64;
 pub const MAX_SIDES: usize = 4;
 pub const MAX_CELLS: u64 = 65_536;
-pub const MAX_VALUE_BYTES: u64 = 16_777_216;
+pub const MAX_VALUE_BYTES: u64 = 8_589_934_592;
+/// The most that an offset of width 4, or a length of the interleaved form, can say.
+pub const MAX_FIELD: u64 = 4_294_967_295;
 pub const MAX_STORE: u64 = 16_777_216;
 pub const MAX_MOVES: u64 = 256;
 
@@ -30,6 +35,9 @@ pub struct Kind {
     pub packed: bool,
     pub form: Form,
 }
+
+/// The value of a cell, or a piece of what is written: lent where it lies somewhere.
+pub type Value<'a> = Cow<'a, [u8]>;
 
 /// Content of an array: planes end to end, outermost first; value bytes; offsets.
 #[derive(Clone, Debug, Default, PartialEq)]
@@ -154,27 +162,27 @@ fn planes(depth: usize, cells: usize, masks: &[u8]) -> Vec<Vec<u8>> {
 }
 
 /// The values, each a list of bytes.
-fn cell_values(form: Form, cells: usize, values: &[u8], offsets: &[u64]) -> Vec<Vec<u8>> {
+fn cell_values<'a>(form: Form, cells: usize, values: &'a [u8], offsets: &[u64]) -> Vec<Value<'a>> {
     let value = |cell: usize| match form {
-        Form::Fixed { size, .. } => values[cell * size..(cell + 1) * size].to_vec(),
-        Form::Ragged { .. } => values[offsets[cell] as usize..offsets[cell + 1] as usize].to_vec(),
+        Form::Fixed { size, .. } => &values[cell * size..(cell + 1) * size],
+        Form::Ragged { .. } => &values[offsets[cell] as usize..offsets[cell + 1] as usize],
     };
-    (0..cells).map(value).collect()
+    (0..cells).map(|cell| value(cell).into()).collect()
 }
 
 /// Offsets of values that lie end to end from 0.
-fn offsets_from_0(values: &[Vec<u8>]) -> Vec<u64> {
+fn offsets_from_0<V: Borrow<[u8]>>(values: &[V]) -> Vec<u64> {
     let mut offsets = vec![0];
     let mut end = 0;
     for value in values {
-        end += value.len() as u64;
+        end += value.borrow().len() as u64;
         offsets.push(end);
     }
     offsets
 }
 
 /// An array of these planes and values, ragged ones end to end from offset 0.
-fn array_of(form: Form, planes: &[Vec<u8>], values: &[Vec<u8>]) -> Array {
+fn array_of<V: Borrow<[u8]>>(form: Form, planes: &[Vec<u8>], values: &[V]) -> Array {
     let offsets = match form {
         Form::Fixed { .. } => vec![],
         Form::Ragged { .. } => offsets_from_0(values),
@@ -192,16 +200,23 @@ fn set_cells(mask: &[u8]) -> Vec<usize> {
 
 // ---------------------------------------------------------------- encode
 
-pub fn encode(k: KindNumbers, shape: &[u64], masks: &[u8], values: &[u8], offsets: &[u64]) -> Result<Vec<u8>, Refusal> {
+/// In pieces: end to end they are the stored bytes.
+pub fn encode<'a>(
+    k: KindNumbers,
+    shape: &[u64],
+    masks: &[u8],
+    values: &'a [u8],
+    offsets: &[u64],
+) -> Result<Vec<Value<'a>>, Refusal> {
     let kind = kind(k)?;
     let cells = shape_cells(shape)?;
     check_array(kind, cells, masks, values, offsets)?;
     let planes = planes(kind.depth, cells, masks);
-    Ok(write_content(kind, &planes, &cell_values(kind.form, cells, values, offsets)))
+    write_content(kind, &planes, &cell_values(kind.form, cells, values, offsets))
 }
 
 /// A frame of the outermost plane given; with no plane left, the values.
-fn write_content(kind: Kind, planes: &[Vec<u8>], values: &[Vec<u8>]) -> Vec<u8> {
+fn write_content<'a>(kind: Kind, planes: &[Vec<u8>], values: &[Value<'a>]) -> Result<Vec<Value<'a>>, Refusal> {
     let Some((mask, inner)) = planes.split_first() else {
         return write_values(kind.form, values);
     };
@@ -209,15 +224,20 @@ fn write_content(kind: Kind, planes: &[Vec<u8>], values: &[Vec<u8>]) -> Vec<u8> 
     let mut content = vec![];
     if !set.is_empty() {
         let inner: Vec<Vec<u8>> = inner.iter().map(|plane| pick(plane, &set)).collect();
-        content = write_content(kind, &inner, &pick(values, &set));
+        content = write_content(kind, &inner, &pick(values, &set))?;
     }
     let mask = write_mask(kind.packed, mask);
     let mut bytes = vec![];
     bytes.extend((mask.len() as u64).to_le_bytes());
-    bytes.extend((content.len() as u64).to_le_bytes());
+    bytes.extend((length_of(&content) as u64).to_le_bytes());
     bytes.extend(mask);
-    bytes.extend(content);
-    bytes
+    content.insert(0, bytes.into());
+    Ok(content)
+}
+
+/// Bytes of all pieces.
+pub fn length_of(pieces: &[Value<'_>]) -> usize {
+    pieces.iter().map(|piece| piece.len()).sum()
 }
 
 /// A plane as it is stored: just as it is, or a bit a cell, the lowest bit of a byte first, and unused bits 0.
@@ -228,15 +248,9 @@ pub fn write_mask(packed: bool, plane: &[u8]) -> Vec<u8> {
     plane.chunks(8).map(|eight| set_cells(eight).iter().map(|i| 1 << i).sum()).collect()
 }
 
-fn write_values(form: Form, values: &[Vec<u8>]) -> Vec<u8> {
+fn write_values<'a>(form: Form, values: &[Value<'a>]) -> Result<Vec<Value<'a>>, Refusal> {
     match form {
-        Form::Fixed { big, .. } => {
-            let mut bytes = vec![];
-            for value in values {
-                bytes.extend(in_order(big, value));
-            }
-            bytes
-        }
+        Form::Fixed { big, .. } => Ok(values.iter().map(|value| in_order(big, value).into()).collect()),
         Form::Ragged { width, end } => write_ragged(width, end, values),
     }
 }
@@ -249,15 +263,19 @@ fn in_order(big: bool, value: &[u8]) -> Vec<u8> {
     value
 }
 
-/// Start: index length, index, data. End: data, index, index length.
-fn write_ragged(width: usize, end: bool, values: &[Vec<u8>]) -> Vec<u8> {
+/// Start: index length, index, data. End: data, index, index length. 20 where an offset does not fit.
+fn write_ragged<'a>(width: usize, end: bool, values: &[Value<'a>]) -> Result<Vec<Value<'a>>, Refusal> {
     let mut index = vec![];
     for offset in offsets_from_0(values) {
+        if width == 4 && offset > MAX_FIELD {
+            return Err(20);
+        }
         index.extend(&offset.to_le_bytes()[..width]);
     }
     let length = (index.len() as u64).to_le_bytes();
-    let data = values.concat();
-    if end { [&data[..], &index, &length].concat() } else { [&length, &index[..], &data].concat() }
+    let data = values.to_vec();
+    let (index, length) = (vec![index.into()], vec![length.to_vec().into()]);
+    Ok(if end { [data, index, length].concat() } else { [length, index, data].concat() })
 }
 
 // ---------------------------------------------------------------- decode
@@ -274,7 +292,7 @@ fn le(bytes: &[u8]) -> u64 {
 }
 
 /// A frame of `depth` levels over `cells` cells; at depth 0 the values.
-fn read_content(kind: Kind, depth: usize, cells: usize, bytes: &[u8]) -> Result<(Vec<Vec<u8>>, Vec<Vec<u8>>), Refusal> {
+fn read_content(kind: Kind, depth: usize, cells: usize, bytes: &[u8]) -> Result<(Vec<Vec<u8>>, Vec<Value<'_>>), Refusal> {
     if depth == 0 {
         return Ok((vec![], read_values(kind.form, cells, bytes)?));
     }
@@ -303,7 +321,7 @@ fn read_content(kind: Kind, depth: usize, cells: usize, bytes: &[u8]) -> Result<
     for plane in inner {
         planes.push(spread(cells, &set, &plane, 0));
     }
-    Ok((planes, spread(cells, &set, &set_values, null_value(kind.form))))
+    Ok((planes, spread(cells, &set, &set_values, null_value(kind.form).into())))
 }
 
 /// What a null is read with: zero bytes, or none.
@@ -344,13 +362,13 @@ fn spread<T: Clone>(cells: usize, set: &[usize], list: &[T], null: T) -> Vec<T> 
     all
 }
 
-fn read_values(form: Form, cells: usize, bytes: &[u8]) -> Result<Vec<Vec<u8>>, Refusal> {
+fn read_values(form: Form, cells: usize, bytes: &[u8]) -> Result<Vec<Value<'_>>, Refusal> {
     match form {
         Form::Fixed { size, big } => {
             if bytes.len() != cells * size {
                 return Err(8);
             }
-            Ok(bytes.chunks(size).map(|value| in_order(big, value)).collect())
+            Ok(bytes.chunks(size).map(|value| in_order(big, value).into()).collect())
         }
         Form::Ragged { width, end } => {
             let (data, offsets) = read_ragged(width, end, cells, bytes)?;
@@ -421,7 +439,7 @@ pub fn decode_interleaved(cells: u64, bytes: &[u8]) -> Result<Array, Refusal> {
         if rest.len() < length {
             return Err(11);
         }
-        values.push(rest[..length].to_vec());
+        values.push(&rest[..length]);
         rest = &rest[length..];
     }
     let offsets = offsets_from_0(&values);
@@ -433,25 +451,29 @@ pub fn decode_interleaved(cells: u64, bytes: &[u8]) -> Result<Array, Refusal> {
 
 // ---------------------------------------------------------------- encode_interleaved
 
-pub fn encode_interleaved(
+/// In pieces, as `encode`. 20 where a cell's length does not fit.
+pub fn encode_interleaved<'a>(
     k: KindNumbers,
     shape: &[u64],
     masks: &[u8],
-    values: &[u8],
+    values: &'a [u8],
     offsets: &[u64],
-) -> Result<Vec<u8>, Refusal> {
+) -> Result<Vec<Value<'a>>, Refusal> {
     let kind = kind(k)?;
     if kind.depth != 0 || matches!(kind.form, Form::Fixed { .. }) {
         return Err(1);
     }
     let cells = shape_cells(shape)?;
     check_array(kind, cells, masks, values, offsets)?;
-    let mut bytes = (cells as u32).to_le_bytes().to_vec();
+    let mut pieces: Vec<Value<'a>> = vec![(cells as u32).to_le_bytes().to_vec().into()];
     for value in cell_values(kind.form, cells, values, offsets) {
-        bytes.extend((value.len() as u32).to_le_bytes());
-        bytes.extend(value);
+        if value.len() as u64 > MAX_FIELD {
+            return Err(20);
+        }
+        pieces.push((value.len() as u32).to_le_bytes().to_vec().into());
+        pieces.push(value);
     }
-    Ok(bytes)
+    Ok(pieces)
 }
 
 // ---------------------------------------------------------------- generate
@@ -484,7 +506,7 @@ pub fn generate(k: KindNumbers, shape: &[u64], start: u32) -> Result<Array, Refu
             Form::Ragged { .. } if null => 0,
             Form::Ragged { .. } => draws.draw() % 9,
         };
-        values.push((0..length).map(|_| if null { 0 } else { (draws.draw() % 256) as u8 }).collect());
+        values.push((0..length).map(|_| if null { 0 } else { (draws.draw() % 256) as u8 }).collect::<Vec<u8>>());
     }
     Ok(array_of(kind.form, &planes, &values))
 }
@@ -584,7 +606,7 @@ pub fn merge(
     }
 
     let mut merged_planes = vec![vec![0; cells]; kind.depth];
-    let mut merged_values = vec![vec![]; cells];
+    let mut merged_values = vec![Value::default(); cells];
     let (mut masks, mut values) = (masks, values);
     for (at, chunk) in boxes.iter().enumerate() {
         let own_offsets = if lists.is_empty() { &[][..] } else { lists[at] };
@@ -672,10 +694,10 @@ fn set_levels(levels: &[u8]) -> usize {
 }
 
 /// The rest form of a cell: what is below a null is cleared.
-fn rested(form: Form, levels: &[u8], value: &[u8]) -> (Vec<u8>, Vec<u8>) {
+fn rested(form: Form, levels: &[u8], value: &[u8]) -> (Vec<u8>, Value<'static>) {
     let set = set_levels(levels);
     let masks = (0..levels.len()).map(|level| u8::from(level < set)).collect();
-    (masks, if set == levels.len() { value.to_vec() } else { null_value(form) })
+    (masks, if set == levels.len() { value.to_vec() } else { null_value(form) }.into())
 }
 
 impl Table {
@@ -777,7 +799,7 @@ pub fn table_make(
         (0..kind.depth).for_each(|level| planes[level][cell] = levels[level]);
         table.starts.push(if value.is_empty() { 0 } else { table.store.len() as u64 });
         table.lengths.push(value.len() as u64);
-        table.store.extend(value);
+        table.store.extend(value.iter());
     }
     table.masks = planes.concat();
     if table.store.len() as u64 > store {
