@@ -2,7 +2,7 @@
 
 use crate::arguments::{self, Arguments};
 use crate::describe::{self, Described, Description, Part};
-use crate::failure::{refusal_text, Failure, DIFFERENT};
+use crate::failure::{refusal_text, Failure, DIFFERENT, SYSTEM};
 use crate::files::{self, Input};
 use crate::locate::Walk;
 use crate::output;
@@ -11,10 +11,10 @@ use crate::stored::{
     cells, given_kind, given_shape, missing_kind, missing_shape, stopped, undescribed, Given, Interleaved, Stored,
 };
 use crate::watch::Watch;
-use crate::{arrangements, explain, guests, help, json, literal, tables, words, worksheet};
+use crate::{arrangements, explain, guests, help, json, literal, memory, tables, words, worksheet};
 use durpaxeta::{
-    decode, encode, encode_interleaved, extract, generate, merge, partial_decode, subset_cells, Array, Cell, Chunk,
-    Kind, Refusal, Subset, Values,
+    decode, encode, encode_interleaved, extract, generate, merge, partial_decode, subset_cells, Array, ArrayRef, Cell,
+    Chunk, Kind, Refusal, Subset, Values,
 };
 use std::ffi::{OsStr, OsString};
 use std::os::unix::ffi::OsStrExt;
@@ -250,10 +250,34 @@ pub fn store(
             Target::plain(path, advice, arguments.no_clobber, inputs)?
         }
     };
-    let stored =
-        encode(array).map_err(|refusal| Failure::Refused { refusal, subject: subject.to_string(), detail: None })?;
+    let stored = encode(array).map_err(|refusal| Failure::Refused {
+        refusal,
+        subject: subject.to_string(),
+        detail: (refusal == Refusal::Field).then(|| too_long_for_an_index(array.view())),
+    })?;
     let says = arguments.describe.then(|| Description::of(array.kind, &array.shape, part.cloned(), &stored));
     target.write(&stored, says.as_ref(), watch)
+}
+
+fn value_length(cell: Option<Cell<'_>>) -> usize {
+    match cell {
+        Some(Cell::Value(value)) => value.len(),
+        _ => 0,
+    }
+}
+
+/// What an index of width 4 does not say, and what helps.
+fn too_long_for_an_index(array: ArrayRef<'_>) -> String {
+    let sum: usize = array.cells().map(|cell| value_length(Some(cell))).sum();
+    format!("The values have {sum} bytes, and offsets of width 4 end at {}: choose width 8, or cut the table", u32::MAX)
+}
+
+/// The first cell that a length of the older form does not say.
+fn too_long_for_the_older_form(array: ArrayRef<'_>) -> Option<String> {
+    let length = |number: usize| value_length(array.cell(number));
+    let number = (0..array.cell_count()).find(|&number| length(number) > u32::MAX as usize)?;
+    let (cell, length) = (words::coordinates(array.shape, number), length(number));
+    Some(format!("Cell {cell} has {length} bytes, and lengths of the older form end at {}", u32::MAX))
 }
 
 // ---------------------------------------------------------------------------------------------------- the commands
@@ -261,6 +285,11 @@ pub fn store(
 fn show(arguments: &Arguments, watch: &Watch) -> Result<u8, Failure> {
     print_table(arguments, watch, worksheet::write, || Stored::named(arguments, false, watch)?.decode())
 }
+
+/// The most memory that the text of a value byte takes: `\x0A` in a worksheet; in JSON `\u000A`, and `0A ` and `0A` in hex. Twice, as a text
+/// is copied where it grows.
+const SHEET: u64 = 2 * 4;
+const JSON: u64 = 2 * (6 + 3 + 2);
 
 /// Prints a table as a worksheet or as JSON.
 pub fn print_table(
@@ -273,6 +302,13 @@ pub fn print_table(
         return Err(Failure::usage("--json shows each value as text and in hex: give --json or --hex, not both"));
     }
     let array = array()?;
+    let (bytes, times) = (array.values.len() as u64, if arguments.json { JSON } else { SHEET });
+    if !memory::holds(bytes.saturating_mul(times)) {
+        let what = format!(
+            "cannot print the table: its values have {bytes} bytes, and there is no memory for {times} times as many"
+        );
+        return Err(Failure::plain(SYSTEM, what));
+    }
     if arguments.json {
         watch.doing("making JSON of the cells");
         return print(&json::write(&array), watch);
@@ -368,6 +404,12 @@ fn merge_parts(arguments: &Arguments, watch: &Watch) -> Result<u8, Failure> {
         parts.push(Merged { subset, stored, array });
     }
     let kind = parts[0].stored.kind;
+    let bytes: usize = parts.iter().map(|part| part.array.values.len()).sum();
+    if !memory::holds((bytes as u64).saturating_mul(3)) {
+        let what =
+            format!("cannot merge: the parts have {bytes} value bytes, and there is no memory for 3 times as many");
+        return Err(Failure::plain(SYSTEM, what));
+    }
     watch.doing(format!("merging {} parts", parts.len()));
     let chunks: Vec<Chunk<'_>> = parts.iter().map(|part| Chunk::new(&part.subset, &part.array)).collect();
     let whole = merge(kind, &shape, &chunks).map_err(|refusal| Failure::Refused {
@@ -485,10 +527,11 @@ fn convert_back(arguments: &Arguments, watch: &Watch) -> Result<u8, Failure> {
     }
     let inputs: Vec<&Input> = stored.inputs().collect();
     let target = Target::plain(&arguments.files[1], "remove it", arguments.no_clobber, &inputs)?;
-    let old = encode_interleaved(&stored.decode()?).map_err(|refusal| Failure::Refused {
+    let array = stored.decode()?;
+    let old = encode_interleaved(&array).map_err(|refusal| Failure::Refused {
         refusal,
         subject: name.clone(),
-        detail: None,
+        detail: too_long_for_the_older_form(array.view()).filter(|_| refusal == Refusal::Field),
     })?;
     target.write(&old, None, watch)?;
     Ok(0)
@@ -644,4 +687,37 @@ fn contents(array: &Array) -> String {
 
 fn example(_: &Arguments, watch: &Watch) -> Result<u8, Failure> {
     print(help::EXAMPLE, watch)
+}
+
+#[cfg(test)]
+mod tests {
+    use super::*;
+    use crate::system;
+    use durpaxeta::{encode_interleaved_into, encode_into, Place, Width};
+
+    /// Refused with 20 before a byte is lent, and told what helps.
+    #[test]
+    fn what_does_not_fit_its_field() {
+        let zeros = system::zeros(u32::MAX as usize + 10);
+        let array = |offsets| {
+            let kind = Kind::ragged(1, Width::Four, Place::Start);
+            ArrayRef { kind, shape: &[1, 2], masks: &[1, 1], values: zeros, offsets }
+        };
+        let offsets = [0, 5, zeros.len() as u64];
+        assert_eq!(encode_into(array(&offsets), &mut []), Err(Refusal::Field));
+        assert_eq!(
+            too_long_for_an_index(array(&offsets)),
+            "The values have 4294967305 bytes, and offsets of width 4 end at 4294967295: choose width 8, or cut the table"
+        );
+        // What is hidden does not count, and is not counted.
+        let hidden = ArrayRef { masks: &[0, 1], ..array(&offsets) };
+        assert!(too_long_for_an_index(hidden).starts_with("The values have 4294967300 bytes"));
+
+        let older =
+            |offsets| ArrayRef { kind: Kind::ragged(0, Width::Eight, Place::Start), masks: &[], ..array(offsets) };
+        assert_eq!(encode_interleaved_into(older(&offsets), &mut []), Err(Refusal::Field));
+        let told = "Cell 0,1 has 4294967300 bytes, and lengths of the older form end at 4294967295";
+        assert_eq!(too_long_for_the_older_form(older(&offsets)).as_deref(), Some(told));
+        assert_eq!(too_long_for_the_older_form(older(&[0, 10, zeros.len() as u64])), None);
+    }
 }

@@ -2,6 +2,7 @@
 
 use crate::failure::{Failure, SYSTEM};
 use crate::literal;
+use crate::memory;
 use crate::system;
 use crate::watch::Watch;
 use std::ffi::OsStr;
@@ -12,8 +13,11 @@ use std::os::unix::ffi::OsStrExt;
 use std::os::unix::fs::MetadataExt;
 use std::path::{Path, PathBuf};
 
-/// More than this is not read: no table needs it, and an input that never ends must end somewhere.
-const MOST: u64 = 1 << 28;
+/// What is no regular file is not read further: an input that never ends must end somewhere. Of a file the length is known before.
+const MOST: u64 = memory::LONG;
+
+/// A table is held as it was read, as an array, and as what is written of it.
+const TIMES: u64 = 3;
 
 /// The device and the inode of a regular file. Two names of one file have one identity.
 #[derive(Clone, Copy, Debug, PartialEq, Eq)]
@@ -95,6 +99,13 @@ pub fn open(path: &OsStr) -> Result<Opened, Failure> {
         return Err(Failure::plain(SYSTEM, format!("cannot read {name}: it is a directory")));
     }
     let total = about.is_file().then_some(about.len());
+    if total.is_some_and(|total| !memory::holds(total.saturating_mul(TIMES))) {
+        let what = format!(
+            "cannot read {name}: it has {} bytes, and there is no memory for {TIMES} times as many, which it takes",
+            about.len()
+        );
+        return Err(Failure::plain(SYSTEM, what));
+    }
     Ok(Opened { name, file, total, identity: identity(&about) })
 }
 
@@ -114,7 +125,10 @@ pub fn read(path: &OsStr, watch: &Watch) -> Result<Input, Failure> {
 
 fn read_all(from: &mut dyn Read, name: &str, total: Option<u64>, watch: &Watch) -> Result<Vec<u8>, Failure> {
     watch.step(format!("reading {name}"), total, "bytes");
+    let most = total.unwrap_or(0).max(MOST);
     let mut bytes = Vec::new();
+    let none = || Failure::plain(SYSTEM, format!("cannot read {name}: not enough memory for it"));
+    bytes.try_reserve_exact(total.unwrap_or(0) as usize).map_err(|_| none())?;
     let mut piece = vec![0; 1 << 16];
     loop {
         let count = match from.read(&mut piece) {
@@ -123,13 +137,16 @@ fn read_all(from: &mut dyn Read, name: &str, total: Option<u64>, watch: &Watch) 
             Err(error) if error.kind() == io::ErrorKind::Interrupted => continue,
             Err(error) => return Err(Failure::system("read", name, &error)),
         };
-        if bytes.len() as u64 + count as u64 > MOST {
-            let what = format!("cannot read {name}: it is longer than {MOST} bytes, the most that is read");
+        if bytes.len() as u64 + count as u64 > most {
+            let what = match total {
+                Some(_) => format!("cannot read {name}: it became longer than {most} bytes while it was read"),
+                None => format!(
+                    "cannot read {name}: it is longer than {most} bytes, the most of what is no file; put it into one"
+                ),
+            };
             return Err(Failure::plain(SYSTEM, what));
         }
-        if bytes.try_reserve(count).is_err() {
-            return Err(Failure::plain(SYSTEM, format!("cannot read {name}: not enough memory for it")));
-        }
+        bytes.try_reserve(count).map_err(|_| none())?;
         bytes.extend_from_slice(&piece[..count]);
         watch.done(bytes.len() as u64);
     }

@@ -29,7 +29,8 @@ A stored table does not say its kind or its shape. You do, or its description do
   --subset 0..2,1..3                                   rows 0 and 1, columns 1 and 2: the end is not included
 
 Depth is the number of mask levels. Level 1 is the outermost. Bytes are counted from 0.
-A file name of - is standard input or standard output. Inputs of over 268,435,456 bytes are not read.
+A file name of - is standard input or standard output. All is read into memory before anything is written. A pipe is read up to
+268,435,456 bytes; a file as far as memory holds three times its bytes. What memory does not hold is refused (74).
 What takes over a second is told in a line on standard error, where that is a terminal.
 In a message the name of a file, a word or a line stands on one line: line ends, controls, invisible and right-to-left
 characters and bytes that are no UTF-8 are told as \n, \r, \t or \x1B.
@@ -50,7 +51,7 @@ Where write, cut, merge, convert, generate, table and guest write to:
 
 Exit status:
   0         all went well, and all of it was delivered
-  1 to 19   the number of the refusal, whether or not anyone read the words to it
+  1 to 20   the number of the refusal, whether or not anyone read the words to it
   64        a wrong command line, or an output that is also an input
   65        a worksheet, a listing of a working table, or a file with a rights plane, that cannot be read
   66        a description that cannot be read
@@ -114,6 +115,8 @@ With --describe OUT.dpx is written too: a text with kind, shape, byte length and
 error or a signal neither; and at every moment between, OUT.dpx fits OUT. Where OUT.dpx is there already, --describe must be
 given, so that it stays right.
 
+An index of width 4 says offsets up to 4294967295. Values with more bytes are refused with 20: choose width 8, or cut the table.
+
 Examples:
   durpaxeta example > guests.txt
   durpaxeta write --describe guests.txt guests.bin
@@ -169,7 +172,8 @@ ragged values. The older form has no masks, so the kind is a ragged one of depth
 and standard error says how many.
 
 With --to-interleaved it goes the other way: IN is a stored table, ragged and of depth 0, and OUT gets its cells in the older
-form, for readers of Zarr V2. Kind and shape may be left out where IN.dpx says them. The older form has no description.
+form, for readers of Zarr V2. Kind and shape may be left out where IN.dpx says them. The older form has no description. A cell of over
+4294967295 bytes is refused with 20.
 
 Examples:
   printf '\002\000\000\000\001\000\000\000A\000\000\000\000' > old.bin

@@ -541,16 +541,25 @@ mod tests {
 
     #[test]
     fn over_the_limit() {
-        let most = MAX_VALUE_BYTES as usize;
+        let (most, field) = (MAX_VALUE_BYTES as usize, u32::MAX as usize);
         let kind = Kind::ragged(0, Width::Eight, Place::Start);
-        let mut bytes = vec![0; 24 + most + 1];
+        let bytes = crate::system::zeros(24 + most + 1);
         bytes[0] = 16;
-        bytes[16..24].copy_from_slice(&(most as u64 + 1).to_le_bytes());
-        assert_eq!(at(table(kind, 1, &bytes)), Some((5, 16)));
-        let mut bytes = vec![0; 8 + most + 1];
-        bytes[0] = 1;
-        bytes[4..8].copy_from_slice(&(most as u32 + 1).to_le_bytes());
-        assert_eq!(at(interleaved(1, &bytes)), Some((5, 4)));
+        for (more, due) in [(0, None), (1, Some((5, 16)))] {
+            bytes[16..24].copy_from_slice(&((most + more) as u64).to_le_bytes());
+            assert_eq!(at(table(kind, 1, &bytes[..24 + most + more])), due);
+        }
+        // Of the older form three cells can be too long together: the third is the one that is.
+        let bytes = crate::system::zeros(4 + 3 * 4 + most + 1);
+        bytes[0] = 3;
+        for cell in [0, 1] {
+            bytes[4 + cell * (4 + field)..][..4].copy_from_slice(&u32::MAX.to_le_bytes());
+        }
+        let third = 4 + 2 * (4 + field);
+        for (more, due) in [(0, None), (1, Some((5, third)))] {
+            bytes[third] = 2 + more as u8;
+            assert_eq!(at(interleaved(3, &bytes[..third + 4 + 2 + more])), due);
+        }
     }
 
     /// The walk comes to the library's answer. Its fields lie within the bytes and nowhere one over the other; with nothing

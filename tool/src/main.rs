@@ -17,6 +17,7 @@ mod json;
 mod listing;
 mod literal;
 mod locate;
+mod memory;
 mod output;
 mod pair;
 #[cfg(test)]

@@ -72,6 +72,22 @@ pub fn output_was_closed() -> bool {
     CLOSED[1].load(Ordering::SeqCst)
 }
 
+/// Zero bytes that are only addresses; a page takes memory once it is written to.
+#[cfg(test)]
+pub fn zeros(length: usize) -> &'static mut [u8] {
+    extern "C" {
+        fn mmap(at: *mut u8, length: usize, access: c_int, flags: c_int, file: c_int, offset: i64) -> *mut u8;
+    }
+    const READ_WRITE: c_int = 3;
+    const PRIVATE_ANONYMOUS_NORESERVE: c_int = 0x4022;
+    // SAFETY: a new mapping, of just that length; it lasts as long as the process.
+    unsafe {
+        let at = mmap(std::ptr::null_mut(), length, READ_WRITE, PRIVATE_ANONYMOUS_NORESERVE, -1, 0);
+        assert_ne!(at as isize, -1, "{length} bytes of addresses: is the address space limited?");
+        std::slice::from_raw_parts_mut(at, length)
+    }
+}
+
 /// A write past the limit of file sizes is an error that can be told, and not the end of the command.
 pub fn tell_of_long_files() {
     // SAFETY: ignoring a signal runs no code of ours.

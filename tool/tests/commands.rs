@@ -569,12 +569,12 @@ fn the_largest_tables() {
     let again = run(&folder, &["write", "-", "-"], &shown.out);
     assert!(again.status == 0 && again.out == stored);
 
-    // 16,777,216 value bytes, and one more.
+    // 16,777,216 value bytes, and one more, which was too many up to version 0.9.
     let kind = "depth 0, ragged, width 8, index at start";
-    for (length, status) in [(16_777_216, 0), (16_777_217, 5)] {
+    for length in [16_777_216, 16_777_217] {
         let stored = le(&[16, 0, length], 8, &vec![b'a'; length as usize]);
         let shown = run(&folder, &["show", "--kind", kind, "--shape", "1", "-"], &stored);
-        assert_eq!(shown.status, status, "{}", shown.err);
+        assert_eq!(shown.status, 0, "{}", shown.err);
         let sheet = [
             &b"durpaxeta worksheet 1\nkind: depth 0, ragged, width 8, index at start\nshape: 1\n0 | - | value \""[..],
             &vec![b'a'; length as usize],
@@ -582,9 +582,56 @@ fn the_largest_tables() {
         ]
         .concat();
         let written = run(&folder, &["write", "-", "-"], &sheet);
-        assert_eq!(written.status, status, "{}", written.err);
-        assert_eq!(written.out == stored, status == 0);
+        assert_eq!(written.status, 0, "{}", written.err);
+        assert!(written.out == stored);
     }
+}
+
+/// A file of holes that no memory holds: refused before a byte of it is read, and nothing is written. A pipe is read to its limit.
+#[test]
+fn more_than_memory_holds() {
+    let folder = folder("memory");
+    fs::File::create(folder.join("huge")).and_then(|file| file.set_len(1 << 43)).unwrap();
+    let kind = ["--kind", "depth 0, ragged, width 8, index at start"];
+    for (command, options) in [
+        ("show", &["--shape", "1", "huge"][..]),
+        ("check", &["--shape", "1", "huge"]),
+        ("explain", &["--shape", "1", "huge"]),
+        ("same", &["--shape", "1", "huge", "huge"]),
+        ("cut", &["--shape", "1", "--subset", "0..1", "huge", "out"]),
+        ("merge", &["--shape", "1", "--part", "0..1", "huge", "out"]),
+        ("convert", &["--shape", "1", "huge", "out"]),
+    ] {
+        let said = run(&folder, &[&[command], &kind[..], options].concat(), b"");
+        assert_eq!(said.status, 74, "{command}: {}", said.err);
+        let told = "durpaxeta: cannot read huge: it has 8796093022208 bytes, and there is no memory for 3 times as many, which it takes\n";
+        assert_eq!(said.err, told, "{command}");
+    }
+    assert_eq!(run(&folder, &["write", "huge", "out"], b"").status, 74);
+    assert!(!folder.join("out").exists());
+}
+
+/// Where the address space is limited, what does not fit is refused as well, a longer file than a pipe may be among them.
+#[test]
+fn more_than_the_address_space_holds() {
+    let folder = folder("addresses");
+    let (bytes, kind) = ((1_usize << 28) + 4096, "depth 0, ragged, width 8, index at start");
+    let file = fs::File::create(folder.join("long")).unwrap();
+    (&file).write_all(&le(&[16, 0, bytes as u64 - 24], 8, b"")).unwrap();
+    file.set_len(bytes as u64).unwrap();
+    let check = format!("{TOOL} check --kind '{kind}' --shape 1 long");
+    let said = sh(&folder, &format!("ulimit -v 600000; {check}"));
+    assert_eq!(said.status, 74, "{}", said.err);
+    assert!(
+        said.err.contains("cannot read long: it has 268439552 bytes, and there is no memory for 3 times"),
+        "{}",
+        said.err
+    );
+    let said = sh(&folder, &check);
+    assert_eq!(said.status, 0, "{}", said.err);
+    let said = sh(&folder, &format!("cat long | {TOOL} check --kind '{kind}' --shape 1 -"));
+    assert_eq!(said.status, 74, "{}", said.err);
+    assert!(said.err.contains("longer than 268435456 bytes, the most of what is no file"), "{}", said.err);
 }
 
 /// Every example of every help page, line by line, in an empty folder.
