@@ -4,7 +4,7 @@
  *
  * It takes little memory. Values that no call may look at, and outputs that no call may change, are addresses without access: a byte read
  * or written there ends the test. Long values that are read repeat a pattern, and long outputs lie in memory that repeats: of its stretches
- * of 2 MiB the first and the last are their own, all between them are one and the same. So what a call wrote there last is what it
+ * of 2 MiB the first, the last and perhaps one more are their own, all others are one and the same. So what a call wrote there last is what it
  * wrote in each of them.
  */
 #define _GNU_SOURCE
@@ -58,16 +58,16 @@ static uint8_t *sparse(size_t size)
     return p;
 }
 
-/* Bytes in stretches. A page behind them must not be touched. */
-static uint8_t *folded(size_t size)
+/* Bytes in stretches; that of the byte `own` is its own. What lies behind them must not be touched. */
+static uint8_t *folded(size_t size, size_t own)
 {
     const size_t stretches = (size + STRETCH - 1) / STRETCH;
-    const int file = file_of(3 * (size_t)STRETCH);
+    const int file = file_of(4 * (size_t)STRETCH);
     uint8_t *p = untouched((stretches + 1) * STRETCH);
     size_t i;
     for (i = 0; i < stretches; i++)
         mapped(p + i * STRETCH, STRETCH, PROT_READ | PROT_WRITE, MAP_SHARED | MAP_FIXED, file,
-               i == 0 ? 0 : i == stretches - 1 ? 2 * STRETCH : STRETCH);
+               (size_t)STRETCH * (i == 0 ? 0 : i == stretches - 1 ? 1 : i == own / STRETCH ? 2 : 3));
     close(file);
     return p;
 }
@@ -201,7 +201,7 @@ static void test_older(void)
 static void longest(dpx_kind kind, uint64_t most)
 {
     const size_t head = 8 + 2 * kind.size, size = most + head, data = kind.order == DPX_START ? head : 0;
-    uint8_t *values = folded(most), *stored = folded(size), *back = folded(most);
+    uint8_t *values = folded(most, 0), *stored = folded(size, 0), *back = folded(most, 0);
     const uint8_t *index = kind.order == DPX_START ? stored + 8 : stored + most, *count = kind.order == DPX_START ? stored : index + 2 * kind.size;
     uint64_t offsets[3] = {7, 7, 7}, number = 0;
 
@@ -238,11 +238,11 @@ static void longest(dpx_kind kind, uint64_t most)
     unfold(back, most);
 }
 
-/* Two halves, whose patterns both begin anew; a cell behind a long one; the older form's two cells. */
+/* Two halves, whose patterns both begin anew; a cell behind a long one. */
 static void test_merge_and_cut(void)
 {
     const uint64_t half = MOST / 2;
-    uint8_t *values = folded(MOST), *back = folded(MOST), *older = folded(2 * FIELD + 12), small[8];
+    uint8_t *values = folded(MOST, 0), *back = folded(MOST, 0), small[8];
     uint64_t offsets[3] = {7, 7, 7};
 
     fill_pattern(values, MOST);
@@ -263,14 +263,35 @@ static void test_merge_and_cut(void)
     ANSWERS(dpx_guest_read(ragged(1, 8), ONE, MASKS(0), MASKS(1), none, MOST, OFFSETS(0, MOST), small, 1, NONE, offsets, 2, lengths), DPX_OK);
     CHECK(lengths[1] == 0 && offsets[1] == 0 && small[0] == 0);
 
-    fill(older, 2 * FIELD + 12);
-    ANSWERS(dpx_encode_interleaved(ragged(0, 4), TWO, NONE, values, 2 * FIELD, OFFSETS(0, FIELD, 2 * FIELD), older, 2 * FIELD + 12, lengths), DPX_OK);
-    CHECK(lengths[0] == 2 * FIELD + 12);
-    CHECK(older[0] == 2 && older[1] == 0 && memcmp(older + 4, "\xFF\xFF\xFF\xFF", 4) == 0 && memcmp(older + 8 + FIELD, "\xFF\xFF\xFF\xFF", 4) == 0);
-    CHECK(older[8] == pattern(0) && older[STRETCH - 1] == pattern(STRETCH - 9) && older[2 * FIELD + 11] == pattern(2 * FIELD - 1));
     unfold(values, MOST);
     unfold(back, MOST);
-    unfold(older, 2 * FIELD + 12);
+}
+
+/* The older form takes three cells for as much: two of the longest, and the two bytes that are left. */
+static void test_longest_older(void)
+{
+    const size_t size = MOST + 16, second = 8 + FIELD;
+    uint8_t *values = folded(MOST, 0), *older = folded(size, second), *back = folded(MOST, 0);
+    uint64_t offsets[5] = {7, 7, 7, 7, 7};
+
+    fill_pattern(values, MOST);
+    fill(older, size);
+    ANSWERS(dpx_encode_interleaved(ragged(0, 4), (const uint64_t[]){3}, 1, NONE, values, MOST, OFFSETS(0, FIELD, 2 * FIELD, MOST), older, size,
+                                   lengths), DPX_OK);
+    CHECK(lengths[0] == size);
+    CHECK(memcmp(older, "\3\0\0\0\xFF\xFF\xFF\xFF", 8) == 0 && memcmp(older + second, "\xFF\xFF\xFF\xFF", 4) == 0);
+    CHECK(memcmp(older + 12 + 2 * FIELD, "\2\0\0\0", 4) == 0 && older[8] == pattern(0) && older[STRETCH - 1] == pattern(STRETCH - 9));
+    CHECK(older[second - 1] == pattern(FIELD - 1) && older[second + 4] == pattern(FIELD) && older[size - 1] == pattern(MOST - 1));
+
+    /* The first cell is no longer there as it was written, but in its first stretch: the second was written over it. */
+    fill(back, MOST);
+    ANSWERS(dpx_decode_interleaved(3, older, size, back, MOST, offsets, 5, lengths), DPX_OK);
+    CHECK(lengths[0] == MOST && lengths[1] == 4 && offsets[0] == 0 && offsets[1] == FIELD && offsets[2] == 2 * FIELD && offsets[3] == MOST);
+    CHECK(offsets[4] == 7 && back[0] == pattern(0) && back[STRETCH / 2] == pattern(STRETCH / 2));
+    check_pattern(back + STRETCH, MOST - STRETCH, 0, __LINE__);
+    unfold(values, MOST);
+    unfold(older, size);
+    unfold(back, MOST);
 }
 
 /* ------------------------------------------------------------------------------------------------------- one byte more */
@@ -444,6 +465,7 @@ int main(void)
     longest(dpx_ragged(0, 8, DPX_START), MOST);
     longest(dpx_ragged(0, 8, DPX_END), MOST);
     test_merge_and_cut();
+    test_longest_older();
     test_over();
     test_fixed_merge();
     test_hidden_parts();
