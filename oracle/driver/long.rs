@@ -158,9 +158,9 @@ impl Compare {
                     )
                 },
             );
-            // The Rust has no packed masks, and below a mask it copies the values before it looks at offsets.
+            // The Rust has no packed masks, and of each level it copies what is set, before it looks at a level below, or at offsets.
             let asked = match judged {
-                Ok(_) => a.kind[4] == 0,
+                Ok(_) => a.kind[0] <= 1 && a.kind[4] == 0,
                 Err(refusal) => refusal == 20 && a.kind[0] == 0,
             };
             if call == ENCODE && asked {
@@ -314,9 +314,10 @@ impl Compare {
                     self.writes(zeros, over(ragged(0, width, place), &[2], &[], &offsets));
                     for masks in [[0, 0], [0, 1], [1, 0], [1, 1]] {
                         self.writes(zeros, over(ragged(1, width, place), &[2], &masks, &offsets));
-                        let [depth, form, width, place, _] = ragged(2, width, place);
                         let inner = [1, 1, masks[0], masks[1]];
-                        self.writes(zeros, over([depth, form, width, place, 1], &[2], &inner, &offsets));
+                        for form in [0, 1] {
+                            self.writes(zeros, over([2, 1, width, place, form], &[2], &inner, &offsets));
+                        }
                     }
                 }
             }
