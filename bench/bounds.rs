@@ -100,8 +100,11 @@ fn write_checked(
     {
         return Err("not the content of this kind");
     }
-    if values.len() > 16_777_216 {
+    if values.len() as u64 > 8_589_934_592 {
         return Err("too many value bytes");
+    }
+    if values.len() > u32::MAX as usize && offsets.windows(2).any(|cell| cell[1] - cell[0] > u64::from(u32::MAX)) {
+        return Err("a cell too long for its length");
     }
     if out.capacity() < 4 + 4 * cells as usize + values.len() {
         return Err("no room");

@@ -1,7 +1,7 @@
 //! The archive's and the Rust's times, in one process: the two by turns, the best of many rounds each.
 //!
 //!   bench OBJECT [ROUNDS [FILE [ONLY]]]     FILE: every row with its times; ONLY: the rows of the interleaved form, generate, table, guest or
-//!                                           arrangement alone
+//!                                           arrangement or long alone
 //!
 //! Both get the same inputs, borrowed. The archive writes to lent outputs, reused from call to call. The Rust allocates: its results, and
 //! inside encode and decode a part of the array for each level, the index and the data; giving that memory back is in its time. Where it
@@ -19,6 +19,7 @@ mod arrangements;
 mod bounds;
 mod guests;
 mod inputs;
+mod long;
 #[path = "../oracle/driver/rng.rs"]
 #[allow(dead_code)]
 mod rng;
@@ -1456,6 +1457,9 @@ fn main() {
     if only == "generate" {
         load_tables(&mut b);
         return loads_said(&b);
+    }
+    if only == "long" {
+        return long::rows(&b.archive, rounds);
     }
     if only == "table" {
         table_tables(&mut b);
