@@ -1,0 +1,10 @@
+pub mod Strings
+pub mod Chunks
+pub mod Live
+pub mod Refusals
+pub mod Demand1
+pub mod Cuts
+pub mod Totals
+pub mod Law
+pub mod Lines
+pub mod Instance
