@@ -155,16 +155,19 @@ module _ {t : LiveTable} {vss : List (List Value)} (s : Sound t vss) where
         ∙ ap (λ (x : List Stored). x ++ later) (map-append newer (strings (new_lengths t) t.area) (new ∷ []))
         ∙ append_assoc news (newer new ∷ []) later
 
-    few_cells : cells_at (chunk_subsets t) m ≤ most_cells
+    pub few_cells : cells_at (chunk_subsets t) m ≤ most_cells
     few_cells =
         le_trans (volume-le t.shape (get_or (chunk_subsets t) m []) (All-at (FullOk t.shape) [] (chunk_subsets t) s.chunked.each m left).fits) s.shaped.few_cells
 
-    -- the chunk reads alike in both forms
+    -- the chunk, read in its old form
+    pub old_read : read_stored (older (get_or olds m [])) (cells_at (chunk_subsets t) m) ≡ gives (get_or vss m [])
+    old_read =
+        rw counted at
+        (read_at (chunk_subsets t) news (older (get_or olds m [])) later vss (omega (arith, counted)) (ap (read_chunks (chunk_subsets t)) (sym before) ∙ s.read))
+
+    -- it reads alike in both forms
     same_read : read_stored (older (get_or olds m [])) (cells_at (chunk_subsets t) (length news)) ≡ read_stored (newer new) (cells_at (chunk_subsets t) (length news))
-    same_read =
-        rw counted
-        (moved_alike (cells_at (chunk_subsets t) m) few_cells (get_or olds m []) (get_or vss m [])
-        (rw counted at (read_at (chunk_subsets t) news (older (get_or olds m [])) later vss (omega (arith, counted)) (ap (read_chunks (chunk_subsets t)) (sym before) ∙ s.read))))
+    same_read = rw counted (moved_alike (cells_at (chunk_subsets t) m) few_cells (get_or olds m []) (get_or vss m []) old_read)
 
     module _ (fits : moved_end t + length new ≤ length t.area) where
       lists_after : ListsOk entering

@@ -1,0 +1,3 @@
+pub mod OldStrings
+pub mod Writing
+pub mod Stages

@@ -1,0 +1,2 @@
+pub mod Strings
+pub mod Meaning
