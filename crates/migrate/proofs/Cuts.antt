@@ -74,7 +74,7 @@ held_lengths shape [] p = refl
 held_lengths shape (b ∷ bs) p = ap₂ (λ (n : ℕ) (r : List ℕ). n ∷ r) (length-cells_in shape b p.0) (held_lengths shape bs p.1)
 
 -- each reader gives as many values as it was asked for
-read_length : (c : Stored) (n : ℕ) {vs : List Value} → read_stored c n ≡ gives vs → length vs ≡ n
+pub read_length : (c : Stored) (n : ℕ) {vs : List Value} → read_stored c n ≡ gives vs → length vs ≡ n
 unfolding read_stored get_values
 read_length (older s) n e = (older_read n s e).counted
 read_length (newer s) n e =

@@ -27,7 +27,7 @@ abbrev pub or_else : Option ℕ → Option ℕ → Option ℕ
 or_else (Some p) o = Some p
 or_else None o = o
 
-later_zero : (o : Option ℕ) → later 0 o ≡ o
+pub later_zero : (o : Option ℕ) → later 0 o ≡ o
 later_zero None = refl
 later_zero (Some p) = ap Some (zero-add p)
 
@@ -51,9 +51,32 @@ place-append (x ∷ xs) ys j = go (eqb j x) (place_in xs j) (place-append xs ys 
         let one : 1 + length xs ≡ suc (length xs) = omega arith in
         ap (later 1) ih ∙ later_later 1 (length xs) (place_in ys j) ∙ ap (λ (k : ℕ). later k (place_in ys j)) one
 
+-- a place is one of the list's, and the number stands there
+pub place_there : (xs : List ℕ) (j p : ℕ) → place_in xs j ≡ Some p → (p < length xs) × (get_or xs p 0 ≡ j)
+place_there [] j p e = absurd (never e)
+  where
+    never : ◌≡◌ {A = Option ℕ} None (Some p) → ⊥
+    never q = cc
+place_there (x ∷ xs) j p e = go (eqb j x) refl (place_in xs j) (λ q. place_there xs j q) e
+  where
+    go : (b : Bool) → eqb j x ≡ b → (o : Option ℕ) → ((q : ℕ) → o ≡ Some q → (q < length xs) × (get_or xs q 0 ≡ j)) → pick b (Some 0) (later 1 o) ≡ Some p
+        → (p < length (x ∷ xs)) × (get_or (x ∷ xs) p 0 ≡ j)
+    go true t o ih e =
+        let z : 0 ≡ p = cc in
+        (omega arith, ap (λ (k : ℕ). get_or (x ∷ xs) k 0) (sym z) ∙ sym (eqb-true j x t))
+    go false t None ih e = absurd (no_place e)
+      where
+        no_place : ◌≡◌ {A = Option ℕ} None (Some p) → ⊥
+        no_place q = cc
+    go false t (Some q) ih e =
+        let z : 1 + q ≡ p = cc in
+        let z' : suc q ≡ p = omega arith in
+        let i = ih q refl in
+        (omega arith, ap (λ (k : ℕ). get_or (x ∷ xs) k 0) (sym z') ∙ i.1)
+
 -- ---- rows of v cells
 
-same_eqb : (a b c d : ℕ) → (a ≡ b → c ≡ d) → (c ≡ d → a ≡ b) → eqb a b ≡ eqb c d
+pub same_eqb : (a b c d : ℕ) → (a ≡ b → c ≡ d) → (c ≡ d → a ≡ b) → eqb a b ≡ eqb c d
 same_eqb a b c d f g = go (eqb c d) refl
   where
     go : (x : Bool) → eqb c d ≡ x → eqb a b ≡ x
