@@ -101,7 +101,7 @@ after_by : (t : LiveTable) (a : Answer Step) → migrate_step_answer t ≡ a →
 unfolding migrate_step
 after_by t a e = ap (table_by t) e
 
-after_values : (t : LiveTable) (asked : Bool) → chunk_values asked (after t) ≡ chunk_values asked t
+pub after_values : (t : LiveTable) (asked : Bool) → chunk_values asked (after t) ≡ chunk_values asked t
 after_values t asked = ap (chunk_values asked) (after_by t (migrate_step_answer t) refl) ∙ go (migrate_step_answer t) refl
   where
     go : (a : Answer Step) → migrate_step_answer t ≡ a → chunk_values asked (table_by t a) ≡ chunk_values asked t

@@ -6,5 +6,7 @@ pub mod Demand1
 pub mod Cuts
 pub mod Totals
 pub mod Law
+pub mod Whole
+pub mod Meaning
 pub mod Lines
 pub mod Instance
