@@ -1,7 +1,7 @@
 -- A live table means what it meant, by the calls that users know (specs/Meaning).
 -- Assumes nothing.
-use Rattle.std.proofs.Common.{◌≡◌, ℕ, zero, suc, ◌+◌, ◌-◌, ◌<◌, ◌≤◌, Bool, true, false, ◌&&◌, List, [], ◌∷◌, ◌++◌, map, length, get_or, drop, leb, ltb}
-use Rattle.std.proofs.Common.{refl, sym, ap, ap₂, ◌∙◌, subst, inr, arith, lit≤, le_trans, length-take-le, get_or-drop, length-drop}
+use Rattle.std.proofs.Common.{◌≡◌, ℕ, suc, ◌+◌, ◌-◌, ◌<◌, ◌≤◌, Bool, true, false, ◌&&◌, List, [], ◌∷◌, ◌++◌, map, length, get_or, drop, leb, ltb}
+use Rattle.std.proofs.Common.{refl, sym, ap, ap₂, ◌∙◌, subst, inr, arith, lit≤, le_trans, length-take-le, get_or-drop, length-drop, take, drop-cons, take-append-drop}
 use Rattle.std.proofs.Common.{le-leb, ltb-true, ltb-false}
 use Rattle.std.proofs.lemmas.List.{get_or-map, get_or_append_left, get_or-append_right, length-map}
 use lib.Dec.{leb-zero}
@@ -13,8 +13,9 @@ use Rattle.array.specs.Shape.{volume, ShapeOk}
 use Rattle.array.specs.Subset.{Subset, lengths, FullOk, cells_of_all}
 use Rattle.array.specs.Cells.{Value}
 use Rattle.array.specs.Content.{Content, RaggedContent, end_to_end, unmasked, layout, leaves, cells_of, array_test, size_test}
+use Rattle.array.specs.declared.answer.RaggedLengths.{RaggedLengths}
 use Rattle.array.specs.Buffers.{lengths_of, ragged_lengths_of, Enough, enough_test, ragged_enough_test, if_room, ragged_outcome, content_outcome, Taken, taken, whole, put_into}
-use Rattle.array.proofs.Answers.{pass, went_on, same_given, then_unless}
+use Rattle.array.proofs.Answers.{pass, went_on, same_given}
 use Rattle.array.proofs.Lists.{All-at, All-of, map_id}
 use Rattle.array.proofs.Offsets.{length-ends}
 use Rattle.array.proofs.Rules.{kind_test_lem, shape_test_lem, many_test_lem, array_test_lem, enough_test_lem}
@@ -43,7 +44,7 @@ use Rattle.migrate.specs.Calls.{cut_values, migrate_extract}
 use Rattle.migrate.specs.Law.{Readable, with_area, after, tried, Lendable}
 use Rattle.migrate.specs.Meaning.{beside, old_string, moved_string, shape_at, read_old, read_moved, read_chunk, read_from, held_in, Backs, whole_of, MeaningLaw, Meaning}
 use Rattle.migrate.proofs.Strings.{length_strings}
-use Rattle.migrate.proofs.Chunks.{cells_at}
+use Rattle.migrate.proofs.Chunks.{cells_at, read_at}
 use Rattle.migrate.proofs.Live.{Sound, sound, stored_counted, chunks_counted, area_values}
 use Rattle.migrate.proofs.Cuts.{cuts, within, as_many}
 use Rattle.migrate.proofs.Whole.{whole_numbers, gather_whole, length_back, bytes_back}
@@ -55,6 +56,10 @@ beside_is : (a : Answer RaggedContent) (out : Content) → beside out.masks (rag
 beside_is (gives c) out = refl
 beside_is (refuses k) out = refl
 
+behind : (b : Bool) (k : ℕ) (a : Answer RaggedContent) → map_answer unmasked (unless b k a) ≡ unless b k (map_answer unmasked a)
+behind true k a = refl
+behind false k a = refl
+
 -- masks ask for no room
 same_room : (c : RaggedContent) (out : Content) → ragged_enough_test c (ragged_lengths_of (ragged_of out)) ≡ enough_test (unmasked c) (lengths_of out)
 same_room c out = sym (ap (λ (b : Bool). b && leb (length c.values) (length out.values) && leb (length c.offsets) (length out.offsets)) (leb-zero (length out.masks)))
@@ -62,7 +67,7 @@ same_room c out = sym (ap (λ (b : Bool). b && leb (length c.values) (length out
 if_room_is : (c : RaggedContent) (out : Content)
     → map_answer unmasked (if_room (ragged_enough_test c (ragged_lengths_of (ragged_of out))) c) ≡ if_room (enough_test (unmasked c) (lengths_of out)) (unmasked c)
 if_room_is c out =
-    then_unless (ragged_enough_test c (ragged_lengths_of (ragged_of out))) 6 c (λ x. gives (unmasked x)) ∙ ap (λ (b : Bool). if_room b (unmasked c)) (same_room c out)
+    behind (ragged_enough_test c (ragged_lengths_of (ragged_of out))) 6 (gives c) ∙ ap (λ (b : Bool). if_room b (unmasked c)) (same_room c out)
 
 -- ---- what a reader gave
 
@@ -84,17 +89,11 @@ stored_read (newer s) n {vs} e =
 -- chunk i, of all
 chunk_read : (bs : List Subset) (cs : List Stored) (vss : List (List Value)) → length cs ≡ length bs → read_chunks bs cs ≡ gives vss → (z : Stored) (i : ℕ) → i < length bs
     → read_stored (get_or cs i z) (cells_at bs i) ≡ gives (get_or vss i [])
-unfolding read_chunks
-chunk_read [] cs vss l e z i h = absurd (omega arith)
-chunk_read (b ∷ bs) [] vss l e z i h = absurd (omega arith)
-chunk_read (b ∷ bs) (c ∷ cs) vss l e z zero h =
-    let g = went_on (read_stored c (volume (lengths b))) (λ vs. and_then (read_chunks bs cs) (λ us. gives (vs ∷ us))) e in
-    let k = went_on (read_chunks bs cs) (λ us. gives (g.0 ∷ us)) g.1.1 in
-    g.1.0 ∙ ap (λ (us : List (List Value)). gives (get_or us 0 [])) (same_given k.1.1)
-chunk_read (b ∷ bs) (c ∷ cs) vss l e z (suc i) h =
-    let g = went_on (read_stored c (volume (lengths b))) (λ vs. and_then (read_chunks bs cs) (λ us. gives (vs ∷ us))) e in
-    let k = went_on (read_chunks bs cs) (λ us. gives (g.0 ∷ us)) g.1.1 in
-    chunk_read bs cs k.0 (omega arith) k.1.0 z i (omega arith) ∙ ap (λ (us : List (List Value)). gives (get_or us (suc i) [])) (same_given k.1.1)
+chunk_read bs cs vss l e z i h =
+    let before : length (take i cs) ≡ i = length-take-le i cs (omega arith) in
+    let parts : take i cs ++ get_or cs i z ∷ drop (suc i) cs ≡ cs = ap (λ (r : List Stored). take i cs ++ r) (sym (drop-cons cs i z (omega arith))) ∙ take-append-drop i cs in
+    subst (λ (j : ℕ). read_stored (get_or cs i z) (cells_at bs j) ≡ gives (get_or vss j [])) before
+    (read_at bs (take i cs) (get_or cs i z) (drop (suc i) cs) vss (omega (arith, before)) (ap (read_chunks bs) parts ∙ e))
 
 -- ---- chunks laid end to end
 
@@ -278,18 +277,14 @@ module _ {t : LiveTable} {vss : List (List Value)} (s : Sound t vss) where
   cut_is : Readable t vss → (out : Content) → beside out.masks (migrate_extract t (whole_of t.shape) (ragged_of out)) ≡ content_outcome (answer out) out
   cut_is r out =
       let ns : List ℕ = whole_of t.shape in
-      let room = ragged_lengths_of (ragged_of out) in
+      let room : RaggedLengths = ragged_lengths_of (ragged_of out) in
+      let small : Bool = size_test (length (joined values)) in
       let cut_by : List Value → Answer RaggedContent =
       λ us. unless (size_test (length (joined us))) 5 (if_room (ragged_enough_test (end_to_end us) room) (end_to_end us)) in
       let same : cut_values t ns vss ≡ values = gather_whole [] t.shape values (length_back [] (volume t.shape) all (joined vss)) in
       ap (beside out.masks) ((cuts t vss r ns (whole_numbers t.shape)).given (ragged_of out)) ∙ beside_is (cut_by (cut_values t ns vss)) out
       ∙ ap (λ (us : List Value). content_outcome (map_answer unmasked (cut_by us)) out) same
-      ∙ ap (λ (a : Answer Content). content_outcome a out) (behind_five (size_test (length (joined values))) ∙ ap (unless (size_test (length (joined values))) 5) (if_room_is form out))
-    where
-      behind_five : (b : Bool) → map_answer unmasked (unless b 5 (if_room (ragged_enough_test form (ragged_lengths_of (ragged_of out))) form))
-          ≡ unless b 5 (map_answer unmasked (if_room (ragged_enough_test form (ragged_lengths_of (ragged_of out))) form))
-      behind_five true = refl
-      behind_five false = refl
+      ∙ ap (λ (a : Answer Content). content_outcome a out) (behind small 5 (if_room (ragged_enough_test form room) form) ∙ ap (unless small 5) (if_room_is form out))
 
   law : Readable t vss → MeaningLaw t vss
   law r = record {

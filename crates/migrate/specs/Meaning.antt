@@ -22,7 +22,7 @@ use Rattle.migrate.specs.Live.{LiveTable, strings, chunk_subsets, chunk_count, n
 use Rattle.migrate.specs.Calls.{migrate_extract}
 use Rattle.migrate.specs.Law.{Readable, tried, Lendable}
 
--- the outcome of a call whose outputs have no masks, beside lent masks, which stay as they were
+-- of a call whose outputs have no masks: the lengths that it names, and its outcome beside lent masks, which stay as they were
 abbrev pub unmasked_lengths : RaggedLengths → Lengths
 unmasked_lengths n = record { masks = 0; values = n.values; offsets = n.offsets }
 
@@ -45,7 +45,7 @@ module _ (t : LiveTable) where
   abbrev pub read_old : ℕ → RaggedContent → Outcome RaggedLengths RaggedContent
   read_old i out = interleaved_decoded (volume (shape_at i)) (old_string i) out
 
-  -- as ragged values of depth 0, width 8, place start; of no masks their form x says nothing
+  -- as ragged values of depth 0, width 8, place start; x, the form of masks, says nothing of them
   abbrev pub read_moved : Masks → ℕ → Content → Outcome Lengths Content
   read_moved x i out = decoded (flat_kind x 8 at_start) (shape_at i) (moved_string i) out
 
@@ -77,9 +77,9 @@ abbrev pub whole_of : List ℕ → List ℕ
 whole_of shape = replicate (length shape) 0 ++ shape
 
 pub record MeaningLaw (t : LiveTable) (vss : List (List Value)) : Type 0 where
-  -- what a chunk holds, or 6: the same of its old string and of its moved one
+  -- old or moved, a chunk gives what it holds, or 6
   pub reads : (x : Masks) (i : ℕ) → i < chunk_count t → (out : Content) → read_chunk t x i out ≡ put_into (held_in vss i) out
-  -- merged with any ragged kind of depth 0; 5 and 6 included
+  -- all of them, merged with any ragged kind of depth 0, are the whole table: 5 and 6 included
   pub merges : (x y : Masks) (w : ℕ) (p : Place) → KindOk (flat_kind y w p) → (backs : List Content) → Backs vss backs → (out : Content)
       → read_then_merge t x (flat_kind y w p) backs out ≡ beside out.masks (migrate_extract t (whole_of t.shape) (ragged_of out))
 
