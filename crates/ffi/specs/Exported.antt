@@ -7,6 +7,7 @@ use Rattle.array.specs.Kind.{Form, fixed, ragged, Place}
 use Rattle.array.specs.Content.{Content, RaggedContent}
 use Rattle.array.specs.declared.answer.Lengths.{Lengths}
 use Rattle.array.specs.declared.answer.RaggedLengths.{RaggedLengths}
+use Rattle.migrate.specs.Calls.{Progress, nothing, entered, Lent}
 use Rattle.table.specs.Table.{Table}
 use Rattle.table.specs.declared.answer.TableLengths.{TableLengths}
 use Rattle.table.specs.declared.answer.Preview.{Preview}
@@ -67,6 +68,15 @@ export_moved o old = export_by one_length o old
 
 abbrev pub export_preview : Outcome Preview (Unit {0}) → List ℕ → Exported (Unit {0})
 export_preview o old = export_by preview_lengths o old
+
+-- a step of a live table names the bytes that it entered, none where no chunk was old, and how many chunks are moved then
+abbrev pub step_lengths : ℕ → Answer Progress → List ℕ → List ℕ
+step_lengths moved (gives nothing) old = set (set old 0 0) 1 moved
+step_lengths moved (gives (entered bytes now)) old = set (set old 0 bytes) 1 now
+step_lengths moved (refuses k) old = old
+
+abbrev pub export_step : ℕ → Outcome Progress Lent → List ℕ → Exported Lent
+export_step moved o old = export_by (step_lengths moved) o old
 
 abbrev pub export_set : Outcome (Unit {0}) Table → Exported Table
 export_set o = export_by no_length o []

@@ -13,15 +13,20 @@ ghost use Rattle.codec.specs.Calls.{encoded, decoded, interleaved_decoded, inter
 ghost use Rattle.load.specs.Calls.{generated};
 ghost use Rattle.arrange.specs.Calls.{arranged};
 ghost use Rattle.chunks.specs.Calls.{extracted, merged, partially_decoded};
+ghost use Rattle.migrate.specs.Calls.{migrate_step, migrate_extract};
+ghost use Rattle.migrate_check.specs.Meaning.{live_by};
+ghost use Rattle.migrate_step.specs.Meaning.{told_step, lent_by};
 ghost use Rattle.table.specs.Calls.{made, read_out, cell_set, previewed, answered, cells_packed};
 ghost use Rattle.table.specs.Meaning.{table_by};
 ghost use Rattle.rights.specs.Calls.{guest_read, guest_edit};
-ghost use Rattle.ffi.specs.Exported.{handed, with_given, by_index, status_of, one_length, two_lengths, three_lengths, four_lengths, preview_lengths, export_one, export_two, export_three, export_four, export_moved, export_preview, export_set};
+ghost use Rattle.ffi.specs.Exported.{handed, with_given, by_index, status_of, one_length, two_lengths, three_lengths, four_lengths, preview_lengths, export_one, export_two, export_three, export_four, export_moved, export_preview, export_set, step_lengths, export_step};
 
 use array::answer::{Lengths, RaggedLengths};
 use array::content::ArrayBytes;
 use array::kind::Kind;
 use array::refusal::Refusal;
+use migrate_check::stored::LiveTable;
+use migrate_step::Step;
 use table::answer::{Preview, TableLengths};
 use table::lent::{Setting, Table};
 
@@ -114,6 +119,26 @@ fn put_preview(answer: Result<Preview, Refusal>, lengths: &mut [u64; 2]) -> u32
         Ok(preview) => {
             lengths[0] = preview.total as u64;
             lengths[1] = preview.unpacked as u64;
+            0
+        }
+    }
+}
+
+// Where no chunk was old, none is moved more than before.
+fn put_step(answer: Result<Step, Refusal>, moved: u64, lengths: &mut [u64; 2]) -> u32
+    ensures status { result ≡ status_of (told_step answer) }
+    ensures lengths { lengths.new ≡ step_lengths moved (told_step answer) lengths.old }
+{
+    match answer {
+        Err(e) => e.number() as u32,
+        Ok(Step::NoneLeft) => {
+            lengths[0] = 0;
+            lengths[1] = moved;
+            0
+        }
+        Ok(Step::Moved { bytes, moved }) => {
+            lengths[0] = bytes as u64;
+            lengths[1] = moved;
             0
         }
     }
@@ -670,4 +695,69 @@ pub extern "C" fn dpx_guest_edit(
             status_of(answer)
         }
     }
+}
+
+// ---- the calls on live tables
+
+#[unsafe(no_mangle)]
+pub extern "C" fn dpx_migrate_step(
+    shape: &[u64],
+    subsets: &[u64],
+    old_lengths: &[u64],
+    old: &[u8],
+    moved: u64,
+    moved_lengths: &mut [u64],
+    area: &mut [u8],
+    lengths: &mut [u64; 2],
+) -> u32
+    ensures { handed result lengths.new (lent_by moved_lengths.new area.new)
+        ≡ export_step moved (migrate_step
+        (live_by shape.now subsets.now old_lengths.now old.now moved moved_lengths.old area.old)) lengths.old }
+{
+    let table = LiveTable {
+        shape,
+        subsets,
+        old_lengths,
+        old,
+    };
+    let answer = migrate_step::migrate_step(table, moved, moved_lengths, area);
+    put_step(answer, moved, lengths)
+}
+
+// Ten parameters, as `dpx_extract`.
+#[unsafe(no_mangle)]
+pub extern "C" fn dpx_migrate_extract(
+    shape: &[u64],
+    subsets: &[u64],
+    subset: &[u64],
+    old_lengths: &[u64],
+    old: &[u8],
+    moved: u64,
+    moved_lengths: &[u64],
+    area: &[u8],
+    values: &mut [u8],
+    offsets: &mut [u64],
+    lengths: &mut [u64; 2],
+) -> u32
+    ensures { handed result lengths.new (content_ragged values.new offsets.new)
+        ≡ export_two (migrate_extract
+        (live_by shape.now subsets.now old_lengths.now old.now moved moved_lengths.now area.now)
+        subset.now (content_ragged values.old offsets.old)) lengths.old }
+{
+    let table = LiveTable {
+        shape,
+        subsets,
+        old_lengths,
+        old,
+    };
+    let answer = migrate_extract::migrate_extract(
+        table,
+        subset,
+        moved,
+        moved_lengths,
+        area,
+        values,
+        offsets,
+    );
+    put_two_lengths(answer, lengths)
 }

@@ -8,16 +8,19 @@ use Rattle.migrate_check.specs.declared.stored.LiveTable as declared
 use Rattle.migrate_check.specs.declared.stored.Stored as stored
 use Rattle.migrate_check.specs.declared.stored.StoredChunks.{StoredChunks}
 
-abbrev pub live_of : declared.LiveTable → ℕ → List ℕ → List ℕ → LiveTable
-live_of t m ls a = record {
-  shape = t.shape.now;
-  subsets = t.subsets.now;
-  old_lengths = t.old_lengths.now;
-  old = t.old.now;
-  moved = m;
-  moved_lengths = ls;
-  area = a;
+abbrev pub live_by : (shape subsets old_lengths old : List ℕ) → ℕ → (moved_lengths area : List ℕ) → LiveTable
+live_by shape subsets old_lengths old moved moved_lengths area = record {
+  shape = shape;
+  subsets = subsets;
+  old_lengths = old_lengths;
+  old = old;
+  moved = moved;
+  moved_lengths = moved_lengths;
+  area = area;
 }
+
+abbrev pub live_of : declared.LiveTable → ℕ → List ℕ → List ℕ → LiveTable
+live_of t m ls a = live_by t.shape.now t.subsets.now t.old_lengths.now t.old.now m ls a
 
 abbrev pub stored_of : stored.Stored → Stored
 stored_of (stored.Stored.Older s) = older s.now

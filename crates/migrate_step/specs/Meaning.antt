@@ -2,7 +2,7 @@
 -- Assumes nothing.
 use Rattle.std.specs.Prelude.{ℕ, List, Result}
 use Rattle.array.specs.declared.refusal.Refusal.{Refusal}
-use Rattle.array.specs.Answer.{map_answer, Outcome}
+use Rattle.array.specs.Answer.{Answer, map_answer, Outcome}
 use Rattle.array.specs.Meaning.{told}
 use Rattle.migrate.specs.Calls.{Progress, nothing, entered, Lent}
 use Rattle.migrate_step.specs.declared.Step.{Step}
@@ -12,5 +12,12 @@ abbrev pub progress_of : Step → Progress
 progress_of NoneLeft = nothing
 progress_of (Moved b m) = entered b m
 
+abbrev pub told_step : Result Step Refusal → Answer Progress
+told_step r = map_answer progress_of (told r)
+
+-- what is lent in place
+abbrev pub lent_by : List ℕ → List ℕ → Lent
+lent_by ls area = record { moved_lengths = ls; area = area }
+
 abbrev pub outcome_step : Result Step Refusal → List ℕ → List ℕ → Outcome Progress Lent
-outcome_step r ls area = record { answer = map_answer progress_of (told r); buffers = record { moved_lengths = ls; area = area } }
+outcome_step r ls area = record { answer = told_step r; buffers = lent_by ls area }

@@ -19,14 +19,18 @@
 //     P KIND CELLS TABLE MOST                           pack_table
 //     G KIND SHAPE RIGHTS MASKS VALUES OFFSETS ROOMS    guest_read
 //     E KIND CELLS RIGHTS TABLE CELL MASKS VALUE        guest_edit
+//     L SHAPE SUBSETS LIVE                              migrate_step
+//     X SHAPE SUBSETS SUBSET LIVE ROOMS                 migrate_extract
 //     # a comment is printed as it is
 //
 // A list is `-` where it is empty; numbers are decimal and joined by commas, bytes hexadecimal; COUNT*X is a run, and `+` joins runs
 // and plain parts. KIND is depth,form,size,order, and the mask form where it is named: form 0 is fixed and 1 ragged, masks 0 bytes
-// and 1 packed. RIGHTS are the bytes of a plane, one a cell. TABLE is MASKS STARTS LENGTHS STORE. ROOMS are the lengths of the outputs to lend.
+// and 1 packed. RIGHTS are the bytes of a plane, one a cell. TABLE is MASKS STARTS LENGTHS STORE, and LIVE is
+// OLD_LENGTHS OLD MOVED MOVED_LENGTHS AREA. ROOMS are the lengths of the outputs to lend.
 // An answer is `refused N`, or `ok LENGTHS: LISTS` with the outputs up to those lengths, masks before values before offsets, or masks
 // before starts before lengths before store. A table that a call works on in place is shown whole, behind `ok:` where a cell was set and
-// behind `ok MOVED:` where it was packed. `ok SUM,UNPACKED` is that of a preview.
+// behind `ok MOVED:` where it was packed; behind `ok BYTES,MOVED:` are the moved lengths and the area after a step. `ok SUM,UNPACKED` is
+// that of a preview.
 // Outputs are filled with EE beforehand; `spoilt` says that a byte beyond the lengths, or any after a refusal, has changed.
 #![tactic(auto)]
 
@@ -85,6 +89,7 @@ fn answer_line(out: &mut impl Write, line: &[u8]) -> io::Result<()> {
     match line {
         [b'#', ..] => show::write_line(out, line),
         [b'R' | b'S' | b'V' | b'P' | b'E', ..] => protocol_tables::answer_table(out, line),
+        [b'L' | b'X', ..] => protocol_live::answer_live(out, line),
         _ => answer_request(out, line),
     }
 }

@@ -5,6 +5,7 @@ pub mod asked;
 pub mod call;
 pub mod input;
 mod lists;
+pub mod live;
 pub mod tables;
 
 use crate::call::{Call, Fields};

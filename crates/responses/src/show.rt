@@ -26,7 +26,7 @@ pub fn write_line<W: Write>(out: &mut W, line: &[u8]) -> io::Result<()>
 }
 
 // The end of an answer's line: whether all is kept that should be.
-pub(crate) fn write_end(out: &mut impl Write, kept: bool) -> io::Result<()> {
+pub fn write_end(out: &mut impl Write, kept: bool) -> io::Result<()> {
     let spoilt = if kept { "" } else { " spoilt" };
     writeln!(out, "{spoilt}")
 }
@@ -49,7 +49,7 @@ pub fn first_of<'a>(array: ArrayBytes<'a>, lengths: Lengths) -> ArrayBytes<'a>
     }
 }
 
-pub(crate) fn write_refused(out: &mut impl Write, e: Refusal) -> io::Result<()> {
+pub fn write_refused(out: &mut impl Write, e: Refusal) -> io::Result<()> {
     let e = e.number();
     write!(out, "refused {e}")
 }
