@@ -98,14 +98,14 @@ module _ (v y : ℕ) (h : y < v) where
       (ap (later 1) (row_other i x js a.1 f))
 
   module _ (js : List ℕ) (a : All (λ j. j < v) js) (x : ℕ) where
-    rows_out : (b n : ℕ) → ((i : ℕ) → b ≤ i → i < b + n → i ≢ x) → place_in (rows v (from b n) js) (x * v + y) ≡ None
+    pub rows_out : (b n : ℕ) → ((i : ℕ) → b ≤ i → i < b + n → i ≢ x) → place_in (rows v (from b n) js) (x * v + y) ≡ None
     rows_out b zero f = refl
     rows_out b (suc n) f =
         place-append (map (λ j. b * v + j) js) (rows v (from (suc b) n) js) (x * v + y)
         ∙ ap₂ (λ (p q : Option ℕ). or_else p (later (length (map (λ j. b * v + j) js)) q)) (row_other b x js a (f b (omega arith) (omega arith)))
         (rows_out (suc b) n (λ i l k. f i (omega arith) (omega arith)))
 
-    rows_in : (b n : ℕ) → b ≤ x → x < b + n → place_in (rows v (from b n) js) (x * v + y) ≡ later ((x - b) * length js) (place_in js y)
+    pub rows_in : (b n : ℕ) → b ≤ x → x < b + n → place_in (rows v (from b n) js) (x * v + y) ≡ later ((x - b) * length js) (place_in js y)
     rows_in b zero l k = absurd (omega arith)
     rows_in b (suc n) l k = place-append (map (λ j. b * v + j) js) (rows v (from (suc b) n) js) (x * v + y) ∙ go (eqb x b) refl (λ p. rows_in (suc b) n p (omega arith))
       where

@@ -3,8 +3,9 @@
 
 ghost use Rattle.std.specs.Prelude.{◌≡◌, ◌<◌, get_or};
 ghost use Rattle.array.specs.Shape.{volume};
+ghost use Rattle.array.specs.Subset.{pairs};
 ghost use Rattle.subset.specs.Cells.{cells_of};
-ghost use Rattle.migrate_cells.specs.Place.{place_in};
+ghost use Rattle.migrate_cells.specs.Place.{place_in, apart_test};
 
 use subset::walk::Subset;
 
@@ -44,4 +45,21 @@ pub fn asked_place(asked: Subset, part: Subset, i: usize) -> Option<usize>
 {
     let cell = subset::cell_at(part.shape, part.starts, part.lens, i as u64);
     place_of(asked, cell)
+}
+
+// Whether two subsets of a shape do not meet: on some side one ends before the other begins.
+pub fn apart(one: Subset, other: Subset) -> bool
+    requires { one.shape.now ≡ other.shape.now }
+    ensures { result ≡ apart_test (pairs one.entry.starts.now one.entry.lens.now)
+        (pairs other.entry.starts.now other.entry.lens.now) }
+{
+    for k in 0..one.starts.len() {
+        if one.starts[k] + one.lens[k] <= other.starts[k] {
+            return true;
+        }
+        if other.starts[k] + other.lens[k] <= one.starts[k] {
+            return true;
+        }
+    }
+    false
 }

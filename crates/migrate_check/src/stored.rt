@@ -84,7 +84,8 @@ impl<'a> StoredChunks<'a> {
     pub fn split_first(self) -> (Stored<'a>, StoredChunks<'a>)
         requires { 1 ≤ length self.old_lengths.now }
         ensures first { chunks_in self.entry ≡ stored_of result.0 ∷ chunks_in result.1 }
-        ensures counted { length self.entry.old_lengths.now ≡ suc (length result.1.old_lengths.now) }
+        ensures counted { length self.entry.old_lengths.now
+            ≡ suc (length result.1.old_lengths.now) }
     {
         let (old, others) = self.old.split_at(self.old_lengths[0] as usize);
         if self.new_lengths.is_empty() {

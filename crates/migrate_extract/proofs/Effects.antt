@@ -1,6 +1,7 @@
 -- What becomes of the places and values that are left: counted, their lengths stored, their bytes stored. One cell more, and many.
 -- Assumes nothing.
-use mathlib.Core.Path.{◌≡◌, refl, sym, ap, ap₂, ◌∙◌}
+use mathlib.Core.Path.{◌≡◌, refl, sym, ap, ap₂, ◌∙◌, subst}
+use mathlib.Core.Bool.{true}
 use Prim.Native.Nat.{ℕ, ◌+◌, ◌*◌, ◌<◌, ◌≤◌}
 use native.Mathlib.Nat.{mul-one}
 use native.Mathlib.Omega.{arith}
@@ -11,7 +12,8 @@ use borrow.Author.Tests.{le-leb, lt-leb}
 use Rattle.std.specs.Prelude.{Option, None, Some}
 use Rattle.array.specs.Answer.{gives, refuses}
 use Rattle.array.specs.Limits.{most_bytes}
-use Rattle.array.specs.Lists.{from, joined}
+use Rattle.array.specs.Lists.{from, joined, All}
+use Rattle.array.specs.Subset.{pairs, SubsetOk, cells_in}
 use Rattle.array.specs.Buffers.{over_at}
 use Rattle.array.specs.Cells.{Value}
 use Rattle.array.specs.Places.{fixed_at, offset_at, step_at}
@@ -22,12 +24,14 @@ use Rattle.decode_interleaved.specs.Walk.{total_of}
 use Rattle.subset.specs.Cells.{cells_of}
 use Rattle.subset.specs.declared.walk.Subset.{Subset}
 use Rattle.subset.proofs.Rows.{asked_count}
-use Rattle.migrate_cells.specs.Place.{place_in}
+use Rattle.migrate_cells.specs.Place.{place_in, apart_test}
 use Rattle.migrate_cells.proofs.Places.{place_there}
+use Rattle.migrate_cells.proofs.Meeting.{apart_none}
+use Rattle.migrate.specs.Live.{Stored}
 use Rattle.merge_stores.specs.Scatter.{scatter, places}
 use Rattle.merge_stores.proofs.Scattering.{scatter_then, scatter_run, places-append, length-places}
-use Rattle.migrate_extract.specs.Asked.{with_value, values_asked, Each}
-use Rattle.migrate_extract.specs.Chunks.{Placed, few_or_refused}
+use Rattle.migrate_extract.specs.Asked.{with_place, with_value, places_asked, values_asked, Each}
+use Rattle.migrate_extract.specs.Chunks.{place_for, chunk_given, chunk_places, chunk_asked, Placed, few_or_refused}
 
 -- nothing is asked of places and values
 abbrev pub Any : ℕ → Value → Type 0
@@ -138,3 +142,27 @@ each_append Q [] ps [] vs e q = (tt, q)
 each_append Q [] ps (u ∷ us) vs e q = absurd (omega arith)
 each_append Q (p ∷ qs) ps [] vs e q = absurd (omega arith)
 each_append Q (p ∷ qs) ps (u ∷ us) vs e q = let r = each_append Q qs ps us vs (omega arith) q.1 in ((q.0, r.0), r.1)
+
+-- ---- a chunk that holds no cell that is asked for
+
+places_none : (f : ℕ → Option ℕ) (js : List ℕ) → All (λ j. f j ≡ None) js → places_asked f js ≡ []
+places_none f [] q = refl
+places_none f (j ∷ js) q = ap (λ (o : Option ℕ). with_place o (places_asked f js)) q.0 ∙ places_none f js q.1
+
+values_none : (f : ℕ → Option ℕ) (js : List ℕ) (vs : List Value) → All (λ j. f j ≡ None) js → values_asked f js vs ≡ []
+values_none f [] vs q = refl
+values_none f (j ∷ js) [] q = refl
+values_none f (j ∷ js) (v ∷ vs) q = ap (λ (o : Option ℕ). with_value o v (values_asked f js vs)) q.0 ∙ values_none f js vs q.1
+
+module _ (asked part : Subset) (e : asked.shape.now ≡ part.shape.now) (t : true ≡ apart_test (pairs asked.starts.now asked.lens.now) (pairs part.starts.now part.lens.now)) where
+  none_asked : All (λ j. place_for asked j ≡ None) (cells_of part)
+  none_asked =
+      subst (λ (sh : List ℕ). All (λ j. place_in (cells_in sh (pairs asked.starts.now asked.lens.now)) j ≡ None) (cells_of part)) (sym e)
+      (apart_none part.shape.now (pairs asked.starts.now asked.lens.now) (pairs part.starts.now part.lens.now)
+      (subst (λ (sh : List ℕ). SubsetOk sh (pairs asked.starts.now asked.lens.now)) e asked.asked.within.inside) part.asked.within.inside (sym t))
+
+  pub apart_places : chunk_places asked part ≡ []
+  apart_places = places_none (place_for asked) (cells_of part) none_asked
+
+  pub apart_asked : (c : Stored) → chunk_asked asked part c ≡ []
+  apart_asked c = values_none (place_for asked) (cells_of part) (chunk_given c part.count) none_asked

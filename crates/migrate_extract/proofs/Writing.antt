@@ -124,7 +124,8 @@ module _ (n : ℕ) (ps : List ℕ) (ws : List Value) (a : All (λ p. p < n) ps) 
   -- ---- 6
 
   module _ (v d : List ℕ) where
-    pub values_short : length v < total_of ws → record { answer = refuses 6; buffers = content_ragged v d } ≡ ragged_outcome (found_answer cut (ragged_lengths_of (content_ragged v d))) (content_ragged v d)
+    pub values_short : length v < total_of ws
+        → record { answer = refuses 6; buffers = content_ragged v d } ≡ ragged_outcome (found_answer cut (ragged_lengths_of (content_ragged v d))) (content_ragged v d)
     values_short h = rw (lt-leb (total_of cut) (length v) (omega (arith, cut_total)))
 
     pub offsets_short : total_of ws ≤ length v → length d < n + 1

@@ -31,7 +31,8 @@ fn write_cut(
     requires { CutAsked asked subsets (chunks_in stored) (length stored.old_lengths.now) sum }
     ensures { outcome_ragged result values.new offsets.new
         ≡ ragged_outcome (found_answer (cut_of asked.entry subsets.entry (chunks_in stored.entry))
-        (ragged_lengths_of (content_ragged values.old offsets.old))) (content_ragged values.old offsets.old) }
+        (ragged_lengths_of (content_ragged values.old offsets.old)))
+        (content_ragged values.old offsets.old) }
 {
     if values.len() < sum {
         return Err(Refusal::Output);

@@ -228,7 +228,8 @@ module _ {s : List ℕ} {sum : ℕ} (c : Counted s sum) (at : ℕ) (d : List ℕ
     laid =
         let l0 : Laying new d at d 0 (le 8 (8 * (n + 1)) ++ (index ++ data')) = laying_is (laying_begins new d at (omega (arith, new_long))) new_is in
         let l1 : Laying new d at one 8 (index ++ data') =
-        laying_part new d at d 0 (le 8 (8 * (n + 1))) (index ++ data') l0 one (first ∙ ap (λ (k : ℕ). over_at k (le 8 (8 * (n + 1))) d) (sym (add-zero at))) 8 (omega (arith, length-le 8 (8 * (n + 1)))) in
+        laying_part new d at d 0 (le 8 (8 * (n + 1))) (index ++ data') l0 one
+        (first ∙ ap (λ (k : ℕ). over_at k (le 8 (8 * (n + 1))) d) (sym (add-zero at))) 8 (omega (arith, length-le 8 (8 * (n + 1)))) in
         let l2 : Laying new d at two (8 + 8 * (n + 1)) (data' ++ []) =
         laying_is (laying_part new d at one 8 index data' l1 two second (8 + 8 * (n + 1)) (omega (arith, index_long))) (sym (append-nil data')) in
         laying_ends new d at three (8 + 8 * (n + 1) + length data')

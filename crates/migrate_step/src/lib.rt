@@ -31,7 +31,8 @@ pub enum Step {
 fn old_string<'a>(table: LiveTable<'a>, number: usize) -> &'a [u8]
     requires room { sum table.old_lengths.now ≤ length table.old.now }
     requires there { number < length table.old_lengths.now }
-    ensures { result.now ≡ get_or (strings table.entry.old_lengths.now table.entry.old.now) number [] }
+    ensures { result.now
+        ≡ get_or (strings table.entry.old_lengths.now table.entry.old.now) number [] }
 {
     let mut left = table.old;
     for length in &table.old_lengths[..number] {

@@ -1,6 +1,6 @@
 -- `count_bytes` meets its contract: cell by cell (proofs/Walking).
 -- Assumes nothing.
-use mathlib.Core.Path.{◌≡◌, refl, sym, ◌∙◌}
+use mathlib.Core.Path.{◌≡◌, refl, sym, ◌∙◌, ap}
 use Prim.Native.Nat.{ℕ, ◌+◌}
 use native.Mathlib.Omega.{arith}
 use mathlib.Core.Bool.{true, false}
@@ -9,12 +9,15 @@ use Rattle.std.specs.Prelude.{Option, None, Some, is_some}
 use Rattle.array.specs.Limits.{most_cells, most_bytes}
 use Rattle.subset.proofs.Rows.{asked_few, asked_count}
 use Rattle.subset.specs.Cells.{cells_of}
+use mathlib.Core.List.{List}
+use Rattle.array.specs.Cells.{Value}
+use Rattle.decode_interleaved.specs.Walk.{total_of}
 use Rattle.migrate_check.specs.Meaning.{stored_of}
 use Rattle.migrate_cells.specs.Reading.{bytes_of, NextCell}
 use Rattle.migrate_extract.specs.Asked.{values_asked}
 use Rattle.migrate_extract.specs.Chunks.{place_for, chunk_given}
 use Rattle.migrate_extract.proofs.Walking.{cell_long, read_small, walking_begins, walking_ends, walking_none, walking_whole, walking_some}
-use Rattle.migrate_extract.proofs.Effects.{Any, each_any, count_left, count_one, asked_total, count_fits}
+use Rattle.migrate_extract.proofs.Effects.{apart_asked, Any, each_any, count_left, count_one, asked_total, count_fits}
 use Rattle.migrate_extract.proofs.chunk.count_bytes.Goals.{After-cell_of-cell, then-is_some, else-is_some}
 use Rattle.migrate_extract.proofs.chunk.count_bytes.Goals as goal
 
@@ -76,3 +79,8 @@ loop-i-preserved c =
 
 pub returns : goal.returns
 returns c = omega (arith, walking_ends c.loop-i.invariant (asked_count c.args.part.asked) c.loop-i-test.false)
+
+pub returns-then-apart : goal.returns-then-apart
+returns-then-apart c =
+    let a = c.args in
+    ap (λ (vs : List Value). total_of vs) (sym (apart_asked a.asked a.part c.requires.shape c.if-apart.ensures (stored_of a.stored)))

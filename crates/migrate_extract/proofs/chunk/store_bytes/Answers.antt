@@ -1,6 +1,6 @@
 -- `store_bytes` meets its contract: cell by cell (proofs/Walking).
 -- Assumes nothing.
-use mathlib.Core.Path.{sym, ap}
+use mathlib.Core.Path.{sym, ap, ap₂}
 use native.Mathlib.Omega.{arith}
 use lib.ListN.{length}
 use Rattle.array.specs.Limits.{most_cells}
@@ -10,7 +10,7 @@ use Rattle.migrate_check.specs.Meaning.{stored_of}
 use Rattle.migrate_cells.specs.Reading.{NextCell}
 use Rattle.migrate_extract.specs.Chunks.{place_for, Placed}
 use Rattle.migrate_extract.proofs.Walking.{cell_long, walking_begins, walking_ends, walking_none, walking_here, walking_some}
-use Rattle.migrate_extract.proofs.Effects.{bytes_left, bytes_one, place_small}
+use Rattle.migrate_extract.proofs.Effects.{apart_places, apart_asked, bytes_left, bytes_one, place_small}
 use Rattle.migrate_extract.proofs.chunk.store_bytes.Goals.{After-cell_of-cell, in-Some, in_default}
 use Rattle.migrate_extract.proofs.chunk.store_bytes.Goals as goal
 
@@ -55,3 +55,9 @@ loop-i-preserved c =
 
 pub returns : goal.returns
 returns c = walking_ends c.loop-i.invariant (asked_count c.args.part.asked) c.loop-i-test.false
+
+pub returns-then-apart : goal.returns-then-apart
+returns-then-apart c =
+    let a = c.args in
+    ap₂ (bytes_left a.begins.now a.values.now) (sym (apart_places a.asked a.part c.requires.read.shape c.if-apart.ensures))
+    (sym (apart_asked a.asked a.part c.requires.read.shape c.if-apart.ensures (stored_of a.stored)))

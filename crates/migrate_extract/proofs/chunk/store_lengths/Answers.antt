@@ -1,6 +1,6 @@
 -- `store_lengths` meets its contract: cell by cell (proofs/Walking).
 -- Assumes nothing.
-use mathlib.Core.Path.{sym}
+use mathlib.Core.Path.{sym, ap₂}
 use native.Mathlib.Omega.{arith}
 use Rattle.array.specs.Limits.{most_cells}
 use Rattle.subset.proofs.Rows.{asked_few, asked_count}
@@ -9,7 +9,7 @@ use Rattle.migrate_check.specs.Meaning.{stored_of}
 use Rattle.migrate_cells.specs.Reading.{NextCell}
 use Rattle.migrate_extract.specs.Chunks.{place_for}
 use Rattle.migrate_extract.proofs.Walking.{cell_long, walking_begins, walking_ends, walking_none, walking_some}
-use Rattle.migrate_extract.proofs.Effects.{Any, each_any, lengths_left, lengths_one, place_small}
+use Rattle.migrate_extract.proofs.Effects.{apart_places, apart_asked, Any, each_any, lengths_left, lengths_one, place_small}
 use Rattle.migrate_extract.proofs.chunk.store_lengths.Goals.{After-cell_of-cell, in-Some, in_default}
 use Rattle.migrate_extract.proofs.chunk.store_lengths.Goals as goal
 
@@ -41,9 +41,16 @@ loop-i-preserved c =
     let w = c.loop-i.invariant in
     let n = asked_count c.args.part.asked in
     elim c.match-asked_place.branch [
-      | in-Some b ↦ rw b.offsets-is (walking_some w n c.loop-i-test.true q b.in-Some.place (sym b.in-Some.ensures) _ (lengths_one c.loop-i.offsets c.cell_of-cell.result.size _ (cell_long q) b.in-Some.place))
+      | in-Some b ↦
+          rw b.offsets-is (walking_some w n c.loop-i-test.true q b.in-Some.place (sym b.in-Some.ensures) _ (lengths_one c.loop-i.offsets c.cell_of-cell.result.size _ (cell_long q) b.in-Some.place))
       | in_default b ↦ rw b.offsets-is (walking_none w n c.loop-i-test.true q (sym b.in_default.ensures))
     ]
 
 pub returns : goal.returns
 returns c = walking_ends c.loop-i.invariant (asked_count c.args.part.asked) c.loop-i-test.false
+
+pub returns-then-apart : goal.returns-then-apart
+returns-then-apart c =
+    let a = c.args in
+    ap₂ (lengths_left a.offsets.now) (sym (apart_places a.asked a.part c.requires.read.shape c.if-apart.ensures))
+    (sym (apart_asked a.asked a.part c.requires.read.shape c.if-apart.ensures (stored_of a.stored)))

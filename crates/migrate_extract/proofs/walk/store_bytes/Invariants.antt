@@ -15,5 +15,6 @@ invariant-loop-part l =
     let sh = l.fn.subsets.shape.now in
     let parts = l.part-iterator.left in
     let rest = subsets_of (length sh) parts.numbers.now in
-    Passing (bytes_left l.begins) (Placed l.begins (length l.fn.values)) (cells_of l.asked) sh rest (chunks_in l.left) l.values ((bytes_left l.begins) l.fn.values (all_places l.asked l.fn.subsets) (all_asked l.asked l.fn.subsets (chunks_in l.fn.stored)))
+    Passing (bytes_left l.begins) (Placed l.begins (length l.fn.values)) (cells_of l.asked) sh rest (chunks_in l.left) l.values
+    (bytes_left l.begins l.fn.values (all_places l.asked l.fn.subsets) (all_asked l.asked l.fn.subsets (chunks_in l.fn.stored)))
     × (parts.shape.now ≡ sh) × (length rest ≡ length l.left.old_lengths.now)

@@ -27,7 +27,8 @@ read c t = record { shape = c.requires.read.shape ∙ sym t.of; read = passing_r
 pub loop-part-init : goal.loop-part-init
 loop-part-init c =
     rw (c.into_iter-part-iterator.ensures.into_iter_gives, c.parts-part-items.ensures) (
-      passing_begins lengths_left Any (cells_of c.args.asked) c.args.subsets.shape.now (subsets_in c.args.subsets) (chunks_in c.args.stored) c.args.offsets.now (all_given c.args.subsets (chunks_in c.args.stored))
+      passing_begins lengths_left Any (cells_of c.args.asked) c.args.subsets.shape.now (subsets_in c.args.subsets) (chunks_in c.args.stored) c.args.offsets.now
+          (all_given c.args.subsets (chunks_in c.args.stored))
           c.requires.read.read (each_any _ _),
       refl,
       c.requires.read.counted,
