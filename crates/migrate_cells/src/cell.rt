@@ -3,7 +3,7 @@ ghost use Rattle.std.specs.Prelude.{◌≡◌, ℕ, suc, ◌+◌, ◌-◌, ◌*�
 ghost use Rattle.array.specs.Limits.{most_cells};
 ghost use Rattle.array.specs.Bytes.{unle};
 ghost use Rattle.array.specs.Cells.{Value};
-ghost use Rattle.migrate_check.specs.Meaning.{stored_of};
+ghost use Rattle.migrate_check.specs.Chunks.{stored_of};
 ghost use Rattle.migrate_cells.specs.Reading.{bytes_of, begins_at, offset_in, CellsLeft, MoreCells, NextCell};
 
 use buffer::field;

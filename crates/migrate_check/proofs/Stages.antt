@@ -14,7 +14,7 @@ use Rattle.valid.proofs.ShapeLaws.{not_counted}
 use Rattle.subset.specs.Subsets.{SubsetsOk}
 use Rattle.chunks.specs.Gather.{once_test}
 use Rattle.migrate.specs.Live.{LiveTable, read_chunks, chunk_subsets, stored_chunks, lists_test, chunk_values}
-use Rattle.migrate_check.specs.Meaning.{bytes_at}
+use Rattle.migrate_check.specs.Chunks.{bytes_at}
 
 module _ (t : LiveTable) (asked : Bool) where
   abbrev read : Answer (List (List Value))

@@ -27,7 +27,7 @@ use Rattle.decode_interleaved.specs.Walk.{total_of}
 use Rattle.stored_index.specs.declared.Index.{Index}
 use Rattle.stored_index.specs.Index.{checked_in, located}
 use Rattle.migrate.specs.Live.{Stored, newer, read_stored, read_chunks}
-use Rattle.migrate_check.specs.Meaning.{bytes_at}
+use Rattle.migrate_check.specs.Chunks.{bytes_at}
 
 -- ---- the reader of moved chunks: the last offset is the number of value bytes
 

@@ -1,2 +1,3 @@
 pub mod Lying
 pub mod Meaning
+pub mod Chunks

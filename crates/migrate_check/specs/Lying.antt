@@ -1,4 +1,4 @@
--- Redundant by the contracts of `StoredChunks`, migrate_check/src/stored.rt: strings of chunks that are left (S16.1).
+-- Redundant by the contract of `migrate_check::check_table`, migrate_check/src/lib.rt: strings of chunks that are left (S16.1).
 -- They lie within their bytes, and no chunk has a new string that has no old one.
 -- Assumes nothing.
 use Rattle.std.specs.Prelude.{ℕ, ◌≤◌, List, length}

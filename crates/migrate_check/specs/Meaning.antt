@@ -1,12 +1,8 @@
--- docs/SPEC.md, S6.13: what the declared types of live tables mean: the table with what is lent beside it, a chunk's string, those of the chunks left.
+-- docs/SPEC.md, S6.13: what the declared type of a live table means, with what is lent beside it.
 -- Assumes nothing.
-use Rattle.std.specs.Prelude.{ℕ, List, [], ◌++◌, map, length, drop, get_or}
-use Rattle.array.specs.Cells.{Value}
-use Rattle.decode_interleaved.specs.Walk.{total_of}
-use Rattle.migrate.specs.Live.{LiveTable, strings, Stored, older, newer}
+use Rattle.std.specs.Prelude.{ℕ, List}
+use Rattle.migrate.specs.Live.{LiveTable}
 use Rattle.migrate_check.specs.declared.stored.LiveTable as declared
-use Rattle.migrate_check.specs.declared.stored.Stored as stored
-use Rattle.migrate_check.specs.declared.stored.StoredChunks.{StoredChunks}
 
 abbrev pub live_by : (shape subsets old_lengths old : List ℕ) → ℕ → (moved_lengths area : List ℕ) → LiveTable
 live_by shape subsets old_lengths old moved moved_lengths area = record {
@@ -21,18 +17,3 @@ live_by shape subsets old_lengths old moved moved_lengths area = record {
 
 abbrev pub live_of : declared.LiveTable → ℕ → List ℕ → List ℕ → LiveTable
 live_of t m ls a = live_by t.shape.now t.subsets.now t.old_lengths.now t.old.now m ls a
-
-abbrev pub stored_of : stored.Stored → Stored
-stored_of (stored.Stored.Older s) = older s.now
-stored_of (stored.Stored.Newer s) = newer s.now
-
--- strings of these lengths, those of the first ones new
-abbrev pub chunks_lying : (old_lengths old new_lengths area : List ℕ) → List Stored
-chunks_lying ls old ms area = map newer (strings ms area) ++ map older (drop (length ms) (strings ls old))
-
-abbrev pub chunks_in : StoredChunks → List Stored
-chunks_in c = chunks_lying c.old_lengths.now c.old.now c.new_lengths.now c.area.now
-
--- how many value bytes the chunk of this number has, of those that were read
-abbrev pub bytes_at : ℕ → List (List Value) → ℕ
-bytes_at m vss = total_of (get_or vss m [])

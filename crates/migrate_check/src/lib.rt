@@ -7,7 +7,8 @@ ghost use Rattle.array.specs.Meaning.{told};
 ghost use Rattle.array.specs.Places.{sum};
 ghost use Rattle.subset.specs.Cells.{subsets_in};
 ghost use Rattle.migrate.specs.Live.{read_chunks, lists_test, chunk_values};
-ghost use Rattle.migrate_check.specs.Meaning.{live_of, chunks_in, bytes_at};
+ghost use Rattle.migrate_check.specs.Chunks.{chunks_in, bytes_at};
+ghost use Rattle.migrate_check.specs.Meaning.{live_of};
 
 use array::refusal::Refusal;
 use stored::{LiveTable, StoredChunks};

@@ -30,7 +30,7 @@ pub enum Stored<'a> {
 }
 
 impl<'a> Stored<'a> {
-    ghost use Rattle.migrate_check.specs.Meaning.{stored_of};
+    ghost use Rattle.migrate_check.specs.Chunks.{stored_of};
 
     // How many value bytes its cells have, by its own reader.
     pub fn read(self, cells: usize) -> Result<usize, Refusal>
@@ -58,7 +58,8 @@ pub struct StoredChunks<'a> {
 }
 
 impl<'a> StoredChunks<'a> {
-    ghost use Rattle.migrate_check.specs.Meaning.{live_of, stored_of, chunks_in};
+    ghost use Rattle.migrate_check.specs.Chunks.{stored_of, chunks_in};
+    ghost use Rattle.migrate_check.specs.Meaning.{live_of};
 
     // Those of a table whose lists were looked at.
     pub fn new(

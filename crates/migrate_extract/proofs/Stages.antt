@@ -29,7 +29,7 @@ use Rattle.migrate.specs.Live.{LiveTable, Stored, read_chunks, chunk_subsets, st
 use Rattle.migrate.specs.Calls.{cut_values, cut_or_refused, migrate_extract, migrate_extract_answer}
 use Rattle.migrate.proofs.Live.{Sound, sound}
 use Rattle.migrate.proofs.Cuts.{as_many}
-use Rattle.migrate_check.specs.Meaning.{bytes_at}
+use Rattle.migrate_check.specs.Chunks.{bytes_at}
 use Rattle.migrate_cells.specs.Place.{place_in}
 use Rattle.migrate_extract.specs.Asked.{places_asked, values_asked}
 use Rattle.migrate_extract.specs.Chunks.{all_read, all_given, AllRead, all_places, all_asked, few_or_refused, cut_of, CutAsked}

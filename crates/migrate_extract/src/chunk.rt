@@ -5,7 +5,7 @@ ghost use Rattle.array.specs.Lists.{joined};
 ghost use Rattle.array.specs.Places.{fixed_at, offset_at};
 ghost use Rattle.decode_interleaved.specs.Walk.{total_of};
 ghost use Rattle.merge_stores.specs.Scatter.{scatter, places};
-ghost use Rattle.migrate_check.specs.Meaning.{stored_of};
+ghost use Rattle.migrate_check.specs.Chunks.{stored_of};
 ghost use Rattle.migrate_extract.specs.Asked.{Each};
 ghost use Rattle.migrate_extract.specs.Chunks.{ChunkRead, chunk_places, chunk_asked, Placed};
 

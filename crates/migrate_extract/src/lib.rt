@@ -7,7 +7,8 @@ ghost use Rattle.array.specs.Buffers.{ragged_outcome, ragged_lengths_of};
 ghost use Rattle.array.specs.Outcome.{content_ragged, outcome_ragged};
 ghost use Rattle.decode_interleaved.specs.Walk.{found_answer};
 ghost use Rattle.migrate.specs.Calls.{migrate_extract};
-ghost use Rattle.migrate_check.specs.Meaning.{live_of, chunks_in};
+ghost use Rattle.migrate_check.specs.Chunks.{chunks_in};
+ghost use Rattle.migrate_check.specs.Meaning.{live_of};
 ghost use Rattle.migrate_extract.specs.Chunks.{CutAsked, cut_of};
 
 use array::answer::RaggedLengths;

@@ -21,7 +21,7 @@ use Rattle.migrate.specs.Live.{LiveTable, strings, new_form, read_stored, chunk_
 use Rattle.migrate.specs.Calls.{Step, enters, fresh, step_or_refused, migrate_step_answer, Progress, nothing, entered, progress_of, Lent, lent_of, lent_after, migrate_step}
 use Rattle.migrate.proofs.Chunks.{cells_at}
 use Rattle.migrate.proofs.Live.{Sound, sound, few_cells, old_read}
-use Rattle.migrate_check.specs.Meaning.{bytes_at}
+use Rattle.migrate_check.specs.Chunks.{bytes_at}
 use Rattle.migrate_step.specs.Strings.{cells_of, Counted, area_after, laid_at}
 
 -- what is left behind where a string was written, or was not

@@ -5,7 +5,7 @@ use Prim.Native.Nat.{◌+◌}
 use lib.ListN.{length}
 use Rattle.array.specs.Subset.{subsets_of}
 use Rattle.subset.specs.Cells.{subsets_in}
-use Rattle.migrate_check.specs.Meaning.{chunks_in}
+use Rattle.migrate_check.specs.Chunks.{chunks_in}
 use Rattle.migrate_check.proofs.Walk.{Walked}
 use Rattle.migrate_check.proofs.check_chunks.Given as goal
 

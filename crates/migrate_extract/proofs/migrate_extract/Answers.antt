@@ -8,7 +8,8 @@ use Rattle.decode_interleaved.specs.Walk.{found_answer}
 use Rattle.array.specs.Cells.{Value}
 use Rattle.array.specs.Buffers.{ragged_lengths_of, ragged_outcome}
 use mathlib.Core.List.{List}
-use Rattle.migrate_check.specs.Meaning.{live_of, chunks_in}
+use Rattle.migrate_check.specs.Chunks.{chunks_in}
+use Rattle.migrate_check.specs.Meaning.{live_of}
 use Rattle.migrate_extract.proofs.Stages.{not_checked, Passed, table_passed, shaped, chunked, lists, numbers, not_few, cut_given, Tied, walked_read, walked_cut, cut_of_is, few_are}
 use Rattle.migrate_extract.proofs.migrate_extract.Goals.{In_ok-check_table, After-new-stored}
 use Rattle.migrate_extract.proofs.migrate_extract.Goals as goal

@@ -2,7 +2,7 @@
 -- Assumes nothing.
 use native.Mathlib.Omega.{arith}
 use Rattle.subset.proofs.Rows.{asked_few}
-use Rattle.migrate_check.specs.Meaning.{chunks_in}
+use Rattle.migrate_check.specs.Chunks.{chunks_in}
 use Rattle.migrate_extract.specs.Chunks.{all_places, all_asked}
 use Rattle.migrate_extract.proofs.Writing.{values_short, offsets_short, summing, placing, cut_written}
 use Rattle.migrate_extract.proofs.write_cut.Goals as goal

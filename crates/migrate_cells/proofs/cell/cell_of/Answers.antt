@@ -5,7 +5,7 @@ use Prim.Native.Nat.{ℕ, ◌<◌}
 use native.Mathlib.Omega.{arith}
 use mathlib.Core.List.{List}
 use Rattle.array.specs.Cells.{Value}
-use Rattle.migrate_check.specs.Meaning.{stored_of}
+use Rattle.migrate_check.specs.Chunks.{stored_of}
 use Rattle.migrate_check.specs.declared.stored.Stored.{Stored}
 use Rattle.migrate_cells.specs.Reading.{MoreCells, CellsLeft, NextCell}
 use Rattle.migrate_cells.proofs.Reading.{older_next, newer_next}

@@ -12,7 +12,7 @@ use Rattle.subset.specs.Cells.{cells_of}
 use mathlib.Core.List.{List}
 use Rattle.array.specs.Cells.{Value}
 use Rattle.decode_interleaved.specs.Walk.{total_of}
-use Rattle.migrate_check.specs.Meaning.{stored_of}
+use Rattle.migrate_check.specs.Chunks.{stored_of}
 use Rattle.migrate_cells.specs.Reading.{bytes_of, NextCell}
 use Rattle.migrate_extract.specs.Asked.{values_asked}
 use Rattle.migrate_extract.specs.Chunks.{place_for, chunk_given}

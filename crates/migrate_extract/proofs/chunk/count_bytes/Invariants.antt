@@ -1,7 +1,7 @@
 -- `count_bytes` meets its contract: what is counted, with what is left, is all (proofs/Walking).
 -- Assumes nothing.
 use Rattle.subset.specs.Cells.{cells_of}
-use Rattle.migrate_check.specs.Meaning.{stored_of}
+use Rattle.migrate_check.specs.Chunks.{stored_of}
 use Rattle.migrate_extract.specs.Chunks.{place_for, chunk_places, chunk_asked}
 use Rattle.migrate_extract.proofs.Walking.{Walking}
 use Rattle.migrate_extract.proofs.Effects.{Any, count_left}

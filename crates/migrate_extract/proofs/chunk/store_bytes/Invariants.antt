@@ -2,7 +2,7 @@
 -- Assumes nothing.
 use lib.ListN.{length}
 use Rattle.subset.specs.Cells.{cells_of}
-use Rattle.migrate_check.specs.Meaning.{stored_of}
+use Rattle.migrate_check.specs.Chunks.{stored_of}
 use Rattle.migrate_extract.specs.Chunks.{place_for, chunk_places, chunk_asked, Placed}
 use Rattle.migrate_extract.proofs.Walking.{Walking}
 use Rattle.migrate_extract.proofs.Effects.{bytes_left}

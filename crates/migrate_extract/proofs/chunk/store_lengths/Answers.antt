@@ -5,7 +5,7 @@ use native.Mathlib.Omega.{arith}
 use Rattle.array.specs.Limits.{most_cells}
 use Rattle.subset.proofs.Rows.{asked_few, asked_count}
 use Rattle.subset.specs.Cells.{cells_of}
-use Rattle.migrate_check.specs.Meaning.{stored_of}
+use Rattle.migrate_check.specs.Chunks.{stored_of}
 use Rattle.migrate_cells.specs.Reading.{NextCell}
 use Rattle.migrate_extract.specs.Chunks.{place_for}
 use Rattle.migrate_extract.proofs.Walking.{cell_long, walking_begins, walking_ends, walking_none, walking_some}

@@ -12,7 +12,7 @@ use Rattle.array.specs.Subset.{pairs, subsets_of, cells_in, cells_of_all}
 use Rattle.decode_interleaved.specs.Walk.{total_of}
 use Rattle.subset.proofs.Steps.{PartStep, part_step, parts_end}
 use Rattle.subset.specs.Cells.{cells_of, subsets_in}
-use Rattle.migrate_check.specs.Meaning.{stored_of, chunks_in}
+use Rattle.migrate_check.specs.Chunks.{stored_of, chunks_in}
 use Rattle.migrate_extract.specs.Asked.{places_asked, values_asked}
 use Rattle.migrate_extract.specs.Chunks.{ChunkRead, place_for, chunk_given, all_given, all_asked}
 use Rattle.migrate_extract.proofs.Walking.{read_small}

@@ -6,7 +6,7 @@ use lib.ListN.{length}
 use Rattle.array.specs.Limits.{most_bytes}
 use Rattle.array.specs.Subset.{subsets_of}
 use Rattle.subset.specs.Cells.{cells_of}
-use Rattle.migrate_check.specs.Meaning.{chunks_in}
+use Rattle.migrate_check.specs.Chunks.{chunks_in}
 use Rattle.migrate_extract.specs.Chunks.{all_places, all_asked}
 use Rattle.migrate_extract.proofs.Passing.{Passing}
 use Rattle.migrate_extract.proofs.Effects.{Any, count_left}

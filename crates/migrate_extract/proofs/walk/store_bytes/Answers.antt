@@ -7,7 +7,7 @@ use mathlib.Core.List.{List}
 use lib.ListN.{length}
 use Rattle.array.specs.Subset.{pairs, cells_in}
 use Rattle.subset.proofs.Steps.{PartStep, part_step}
-use Rattle.migrate_check.specs.Meaning.{stored_of}
+use Rattle.migrate_check.specs.Chunks.{stored_of}
 use Rattle.migrate_extract.specs.Asked.{Each, places_asked, values_asked}
 use Rattle.migrate_extract.specs.Chunks.{ChunkRead, place_for, chunk_given, Placed}
 use Rattle.migrate_extract.proofs.Passing.{passing_read, passing_many, passing_here, passing_more}

@@ -4,7 +4,7 @@ use mathlib.Core.Path.{◌≡◌}
 use lib.ListN.{length}
 use Rattle.array.specs.Subset.{subsets_of}
 use Rattle.subset.specs.Cells.{cells_of}
-use Rattle.migrate_check.specs.Meaning.{chunks_in}
+use Rattle.migrate_check.specs.Chunks.{chunks_in}
 use Rattle.migrate_extract.specs.Chunks.{all_places, all_asked, Placed}
 use Rattle.migrate_extract.proofs.Passing.{Passing}
 use Rattle.migrate_extract.proofs.Effects.{bytes_left}

@@ -8,7 +8,7 @@ use lib.ListN.{length}
 use Rattle.array.specs.Subset.{pairs, cells_in}
 use Rattle.subset.proofs.Steps.{PartStep, part_step}
 use Rattle.subset.specs.Cells.{cells_of, subsets_in}
-use Rattle.migrate_check.specs.Meaning.{stored_of, chunks_in}
+use Rattle.migrate_check.specs.Chunks.{stored_of, chunks_in}
 use Rattle.migrate_extract.specs.Asked.{places_asked, values_asked}
 use Rattle.migrate_extract.specs.Chunks.{ChunkRead, place_for, chunk_given, all_given}
 use Rattle.migrate_extract.proofs.Passing.{passing_begins, passing_read, passing_many, passing_more}

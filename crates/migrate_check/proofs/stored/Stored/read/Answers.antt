@@ -7,7 +7,7 @@ use Rattle.array.specs.Answer.{Answer, map_answer}
 use Rattle.array.specs.Meaning.{told}
 use Rattle.decode_interleaved.specs.Walk.{total_of}
 use Rattle.migrate.specs.Live.{read_stored}
-use Rattle.migrate_check.specs.Meaning.{stored_of}
+use Rattle.migrate_check.specs.Chunks.{stored_of}
 use Rattle.migrate_check.specs.declared.stored.Stored as declared
 use Rattle.migrate_check.proofs.Walk.{last_of, newer_read}
 use Rattle.migrate_check.proofs.stored.Stored.read.Goals.{After-check_ragged}
