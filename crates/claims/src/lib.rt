@@ -9,6 +9,8 @@ ghost use Rattle.chunks.specs.Longer as chunks;
 ghost use Rattle.codec.specs.Long.{LongLines};
 ghost use Rattle.codec.specs.Longer as codec;
 ghost use Rattle.codec.specs.Older.{OlderReturns};
+ghost use Rattle.migrate.specs.Law.{AllMoved, AnyTries, CutStays, Cuts, OneByOne, RefusedStays, TryAgain};
+ghost use Rattle.migrate.specs.Meaning.{Meaning};
 
 // docs/SPEC.md, S15.4: each arrangement is a valid array in rest form with zero bytes and lengths up to 3, each such array comes up for just one
 // number, and of a number below the count nothing but 6 is refused.
@@ -36,7 +38,6 @@ pub fn table_comes_back()
 {}
 
 // docs/SPEC.md, S8.8: what is written in the interleaved form reads back, where each cell fits its field.
-#[tactic(auto, using(codec::proofs::Older::older_returns))]
 pub fn interleaved_form_comes_back()
     ensures { OlderReturns }
 {}
@@ -64,4 +65,53 @@ pub fn readers_of_today()
 #[tactic(auto, using(codec::proofs::Long::long_lines))]
 pub fn long_lines()
     ensures { LongLines }
+{}
+
+// docs/SPEC.md, S16.5: a cut of a live table gives the cells of its subset, each from the chunk that holds it.
+#[tactic(auto, using(migrate::proofs::Cuts::cuts))]
+pub fn cut_takes_each_cell_from_its_chunk()
+    ensures { Cuts }
+{}
+
+// docs/SPEC.md, S16.7: it is the same before, between and after any steps, refusals included, with nothing asked of the table.
+#[tactic(auto, using(migrate::proofs::Law::cut_stays))]
+pub fn cut_stays()
+    ensures { CutStays }
+{}
+
+// docs/SPEC.md, S16.8: a step that succeeds moves one chunk, and none is left only where all are moved.
+#[tactic(auto, using(migrate::proofs::Law::one_by_one))]
+pub fn one_by_one()
+    ensures { OneByOne }
+{}
+
+// The same: m old chunks need m successful steps, and behind them none is left.
+#[tactic(auto, using(migrate::proofs::Law::all_moved))]
+pub fn all_moved()
+    ensures { AllMoved }
+{}
+
+// docs/SPEC.md, S16.9: a refused step changes nothing.
+#[tactic(auto, using(migrate::proofs::Law::refused_stays))]
+pub fn refused_step_changes_nothing()
+    ensures { RefusedStays }
+{}
+
+// The same: after a 6 the step succeeds in any area that is long enough and holds the same moved bytes.
+#[tactic(auto, using(migrate::proofs::Law::try_again))]
+pub fn six_may_be_tried_again()
+    ensures { TryAgain }
+{}
+
+// docs/SPEC.md, S16.10: whatever areas are lent for the steps, moved chunks are as many as steps succeeded, and cuts stay.
+#[tactic(auto, using(migrate::proofs::Law::any_tries))]
+pub fn any_tries()
+    ensures { AnyTries }
+{}
+
+// docs/SPEC.md, S16.11: chunks read by `decode_interleaved` and, once moved, by `decode`, and merged, are what a cut of the whole shape
+// says.
+#[tactic(auto, using(migrate::proofs::Meaning::meaning))]
+pub fn live_table_means_its_chunks_merged()
+    ensures { Meaning }
 {}
