@@ -311,7 +311,7 @@ typedef struct dpx_room {
  *   dpx_table_read          its cells,           bytes: store_len
  *   dpx_partial_decode      cells of the subset, bytes: bytes_len, kind: ragged, depth 0
  *   dpx_decode_interleaved  its cells,           bytes: bytes_len, kind: ragged, depth 0
- *   dpx_migrate_extract     cells of the subset, bytes: old_len,   kind: ragged, depth 0
+ *   dpx_migrate_extract     cells of the subset, bytes: old_len + area_len, kind: ragged, depth 0
  * All of it is used but for ragged values, which may be shorter.
  */
 static inline dpx_room dpx_array_room(dpx_kind kind, uint64_t cells, size_t bytes)
@@ -1020,7 +1020,7 @@ uint32_t dpx_migrate_step(const uint64_t *shape, size_t shape_len,
  * The values of the subset's cells, in row order, each from the chunk that holds it, end to end from offset 0. A subset of no
  * cells is allowed: there are no values then, and the one offset 0. The table is not changed.
  * What comes out is what the chunks, each read with its call and all put together with dpx_merge, have in these cells.
- * Enough room: dpx_array_room with old_len, or fewer. That is as many values as the cells have bytes, and one offset more than
+ * Enough room: dpx_array_room with old_len + area_len. That is as many values as the cells have bytes, and one offset more than
  * the subset has cells.
  *
  *   lengths[0]   value bytes written
