@@ -2,7 +2,7 @@
  * Durpaxeta: tables of optional and variable-length cells in one checked byte layout.
  *
  * Link with libdurpaxeta.a (x86-64). Nothing else is needed but memcpy, memmove, memset and memcmp, as of any C library.
- * The archive has the eighteen calls. All else is static inline here: kinds, answers in words, room for outputs, cells.
+ * The archive has the twenty calls. All else is static inline here: kinds, answers in words, room for outputs, cells.
  *
  * A TABLE is a kind, a shape and its content.
  *
@@ -33,6 +33,21 @@
  * they lie is that of their starts. Nothing is ever cleared: bytes that a cell had before stay in the store until others
  * are put there. Who hands a store on hands them on, too; dpx_table_read gives the cells alone.
  *
+ * A LIVE TABLE is a ragged table of depth 0 that leaves the older form chunk by chunk, while it is in use: dpx_migrate_step
+ * moves a chunk, dpx_migrate_extract gives cells. The caller holds all of it, and hands all of it to each call.
+ *
+ *   subsets        the cells of each chunk, as for dpx_merge: together they hold each cell of the shape once.
+ *   old_lengths    one number a chunk: the bytes of its old string, of a moved chunk too. They sum to old_len.
+ *   old            the old strings end to end, each as dpx_decode_interleaved reads it. Nothing is ever written there.
+ *   moved          how many chunks are moved. They are the first ones of the list: chunks are moved in its order.
+ *   moved_lengths  one number a chunk: the bytes of its string in the area. What stands there of old chunks is not read.
+ *   area           the moved strings end to end from its begin, each as dpx_encode writes dpx_ragged(0, 8, DPX_START). What
+ *                  lies behind them is not read.
+ *
+ * Each call checks all of it first, and reads every chunk, whatever it is asked for: a table with one chunk that cannot be read
+ * is refused as a whole. While nothing but steps changes the table, dpx_migrate_extract answers the same before, between and
+ * after them, with the same bytes. The area may be exchanged for another one that begins with the same moved strings.
+ *
  * GUESTS. A rights plane says which cells a guest may see: one byte a cell, 01 where it shows the cell, 00 where it hides it;
  * there is no other. Each guest has its own; it is part of no array and no table. dpx_guest_read gives a guest what its plane
  * shows of an array; dpx_guest_edit sets a cell of a working table that it shows. Only a mask can hide a cell: both calls
@@ -54,8 +69,9 @@
  * whether array or table keep the rules, for 4 and 5 look at every cell; and by 16 of an edit how full the store is. Nothing
  * is promised of how long a call takes.
  *
- * SLICES. A slice is a pointer and a count, in this order. The count is in elements: bytes for rights, masks, values, stores
- * and stored bytes, 64-bit numbers for shape, subset, offsets, cells, starts and cell_lengths. NULL with 0 is an empty slice.
+ * SLICES. A slice is a pointer and a count, in this order. The count is in elements: bytes for rights, masks, values, stores,
+ * stored bytes and areas, 64-bit numbers for shape, subset, offsets, cells, starts and lists of lengths. NULL with 0 is an
+ * empty slice.
  * `lengths` is a pointer to as many numbers as its brackets say; it must not be NULL.
  *
  * SUBSETS. A subset (a box of cells) is one slice: all starts, then all lengths. With two sides: start 0, start 1,
@@ -80,7 +96,7 @@
  *
  * STACK. 16 KiB is enough for any call but dpx_table_read, dpx_table_set, dpx_table_preview, dpx_table_pack and dpx_guest_edit,
  * which put the cells in the order in which they lie: for these 16 KiB are enough up to 2,048 cells, and 272 KiB above.
- * dpx_merge takes 8 KiB to mark the cells that its subsets hold.
+ * dpx_merge, dpx_migrate_step and dpx_migrate_extract take 8 KiB to mark the cells that the subsets hold.
  *
  * THREADS. There is no state: any number of calls may run at the same time, on outputs that do not overlap.
  */
@@ -121,16 +137,18 @@ enum dpx_refusal {
                        ragged, or not 1 to 256 cells are to be moved; of an arrangement: depth over 2, or not 1 to 4 cells */
     DPX_SHAPE = 2,  /* no side, five or more, a side of 0, or over 65,536 cells (also as the count of the older form); a
                        working table of no cells, or of over 65,536 */
-    DPX_SUBSET = 3, /* a subset reaches past its shape, or has not one start and one length a side; in a merge also: it
-                       holds no cell */
+    DPX_SUBSET = 3, /* a subset reaches past its shape, or has not one start and one length a side; in a merge, and of a chunk
+                       of a live table, also: it holds no cell */
     DPX_NO_MASKS = 17, /* a guest's call: the kind has depth 0, so there is no mask that could hide a cell */
 
-    /* Whoever hands over an array, a chunk list, a working table or a rights plane. */
+    /* Whoever hands over an array, a chunk list, a working table, a live table or a rights plane. */
     DPX_CONTENT = 4, /* lengths of masks, values, offsets or chunks disagree, a mask byte is over 01, the first offset is not
                         0, or offsets fall; a working table is not in rest form, or its cells overlap, leave the store, or
-                        start elsewhere than at 0 with no bytes; a rights plane has not one byte a cell, or one over 01 */
+                        start elsewhere than at 0 with no bytes; a live table's lists have not one length a chunk, its old
+                        lengths do not sum to its old bytes, more chunks are moved than it has, or its moved lengths sum
+                        past the area; a rights plane has not one byte a cell, or one over 01 */
     DPX_SIZE = 5,    /* over 8,589,934,592 value bytes, or over 16,777,216 bytes of a store */
-    DPX_COVER = 12,  /* the subsets of a merge miss a cell or hold one twice */
+    DPX_COVER = 12,  /* the subsets of a merge, or of a live table, miss a cell or hold one twice */
     DPX_FIELD = 20,  /* an offset for an index of width 4, or a cell's length in the older form, is over 4,294,967,295 */
 
     /* Whoever sets a cell of a working table, or asks what a setting would do. */
@@ -152,12 +170,12 @@ enum dpx_refusal {
     DPX_NOT_BOOLEAN = 14, /* a stored mask of bytes has a byte over 01 */
 
     /* Whoever lends the output. */
-    DPX_OUTPUT = 6 /* an output is shorter than the result needs */
+    DPX_OUTPUT = 6 /* an output is shorter than the result needs; of a live table also: the area is, for the next chunk */
 };
 
 /* An answer in words: what is wrong, and who causes it. */
 #define DPX_DESCRIBER " (caused by whoever describes the table)"
-#define DPX_SUPPLIER " (caused by whoever hands over the array, chunk list, working table or rights plane)"
+#define DPX_SUPPLIER " (caused by whoever hands over the array, chunk list, working table, live table or rights plane)"
 #define DPX_SETTER " (caused by whoever sets the cell)"
 #define DPX_NUMBERER " (caused by whoever numbers the arrangement)"
 #define DPX_STORER " (caused by whoever stored the bytes)"
@@ -172,13 +190,15 @@ static inline const char *dpx_refusal_text(uint32_t refusal)
     case DPX_SHAPE: return "refusal 2: the shape is out of range: 1 to 4 sides, each at least 1, at most 65,536 cells in"
                            " all (of a working table: 1 to 65,536 cells)" DPX_DESCRIBER;
     case DPX_SUBSET: return "refusal 3: a subset reaches past the shape, or has not one start and one length for each side,"
-                            " or, in a merge, holds no cell" DPX_DESCRIBER;
+                            " or, in a merge or as a chunk of a live table, holds no cell" DPX_DESCRIBER;
     case DPX_CONTENT: return "refusal 4: lengths of masks, values, offsets or chunks disagree, a mask byte is neither 00 nor"
                              " 01, the first offset is not 0, or offsets fall (of a working table: it is not in rest form, or"
-                             " cells overlap or lie where they must not; of a rights plane: it has not one byte for each cell,"
-                             " or one is neither 00 nor 01)" DPX_SUPPLIER;
+                             " cells overlap or lie where they must not; of a live table: a list has not one length for each"
+                             " chunk, lengths do not sum to the old bytes or sum past the area, or more chunks are moved than"
+                             " there are; of a rights plane: it has not one byte for each cell, or one is neither 00 nor 01)"
+                             DPX_SUPPLIER;
     case DPX_SIZE: return "refusal 5: more than 8,589,934,592 value bytes, or 16,777,216 bytes of a store" DPX_SUPPLIER;
-    case DPX_OUTPUT: return "refusal 6: an output is shorter than the result needs" DPX_LENDER;
+    case DPX_OUTPUT: return "refusal 6: an output, or the area of a live table, is shorter than the result needs" DPX_LENDER;
     case DPX_SHORT: return "refusal 7: too few stored bytes: a frame takes at least 16, ragged values 8, the interleaved form"
                            " 4 and 4 for each cell" DPX_STORER;
     case DPX_LENGTH: return "refusal 8: a stored length disagrees with the bytes that are there, or with the number of cells,"
@@ -186,7 +206,8 @@ static inline const char *dpx_refusal_text(uint32_t refusal)
     case DPX_COUNT: return "refusal 9: the interleaved form counts another number of cells" DPX_STORER;
     case DPX_FALLING: return "refusal 10: the first stored offset is not 0, or stored offsets fall" DPX_STORER;
     case DPX_PAST_END: return "refusal 11: interleaved form: a length field or a cell runs past the end" DPX_STORER;
-    case DPX_COVER: return "refusal 12: the subsets of the merge miss a cell or hold one twice" DPX_SUPPLIER;
+    case DPX_COVER: return "refusal 12: the subsets of the merge, or of the live table, miss a cell or hold one twice"
+                           DPX_SUPPLIER;
     case DPX_UNUSED_BITS: return "refusal 13: a packed mask has a bit after its last cell that is not 0" DPX_STORER;
     case DPX_NOT_BOOLEAN: return "refusal 14: a stored mask byte is neither 00 nor 01" DPX_STORER;
     case DPX_CELL: return "refusal 15: the working table has no cell of that number" DPX_SETTER;
@@ -290,6 +311,7 @@ typedef struct dpx_room {
  *   dpx_table_read          its cells,           bytes: store_len
  *   dpx_partial_decode      cells of the subset, bytes: bytes_len, kind: ragged, depth 0
  *   dpx_decode_interleaved  its cells,           bytes: bytes_len, kind: ragged, depth 0
+ *   dpx_migrate_extract     cells of the subset, bytes: old_len + area_len, kind: ragged, depth 0
  * All of it is used but for ragged values, which may be shorter.
  */
 static inline dpx_room dpx_array_room(dpx_kind kind, uint64_t cells, size_t bytes)
@@ -347,6 +369,16 @@ static inline size_t dpx_stored_room(dpx_kind kind, uint64_t cells, size_t value
 static inline size_t dpx_interleaved_room(uint64_t cells, size_t values_len)
 {
     return cells > DPX_MAX_CELLS || values_len > DPX_MAX_VALUE_BYTES ? 0 : 4 + 4 * cells + values_len;
+}
+
+/*
+ * The most bytes of the area that chunks of a live table take once they are moved: so many chunks, of so many cells in all,
+ * whose old strings have old_len bytes. Exactly as many are taken where no old string has bytes behind its last cell.
+ * One chunk takes 24 bytes, 8 for each cell after its first, and the bytes of its cells.
+ */
+static inline size_t dpx_area_room(size_t chunks, uint64_t cells, size_t old_len)
+{
+    return cells > DPX_MAX_CELLS || chunks > cells ? 0 : 12 * chunks + 4 * cells + old_len;
 }
 
 /*
@@ -937,6 +969,94 @@ uint32_t dpx_guest_edit(dpx_kind kind, uint64_t cells,
                         uint64_t cell,
                         const uint8_t *cell_masks, size_t cell_masks_len,
                         const uint8_t *value, size_t value_len);
+
+/*
+ * Moves the next chunk of a live table to the new form: the lowest-numbered one that is still old.
+ *
+ * Its cells are written to the area right behind the strings moved before, with an index of width 8 at the start; bytes behind
+ * the last cell of its old string are left out. moved_lengths[moved] gets the length of that string, and `moved` + 1 is to be
+ * handed over from then on: it is the number that lengths[1] names. All other entries, the area around the string, and the old
+ * bytes stay as they are.
+ * A table of m old chunks needs m calls that answer 0 with lengths[0] above 0. Where no chunk is old the answer is 0 too, and
+ * nothing changes but `lengths`: none is left. A call that is refused changes nothing; after 6 it may be made again with a
+ * longer area that begins with the same moved strings.
+ * Enough room: dpx_area_room, of all chunks for all steps.
+ *
+ *   lengths[0]   bytes entered, at least 24; 0 where none is left
+ *   lengths[1]   chunks moved now
+ *
+ * Refusals, in this order:
+ *   2 DPX_SHAPE    whoever describes the table
+ *   3 DPX_SUBSET   whoever describes the table: as for dpx_merge
+ *   4 DPX_CONTENT  whoever hands over the table: old_lengths_len or moved_lengths_len is not the count of chunks; the old
+ *                  lengths do not sum to old_len; `moved` is over the count of chunks; or the first `moved` of moved_lengths
+ *                  sum to more than area_len
+ *  12 DPX_COVER    whoever hands over the table: the subsets miss a cell or hold one twice, so also if there is none
+ *   for each chunk, in the order of the list; of an old one, in the bytes that its length says:
+ *   7 DPX_SHORT    whoever stored the bytes: under 4 * (1 + cells) bytes
+ *   9 DPX_COUNT    whoever stored the bytes: the stored count is not that of its cells
+ *  11 DPX_PAST_END whoever stored the bytes: a length field or a cell runs past the end
+ *   5 DPX_SIZE     whoever hands over the table: its cells sum up to over 8,589,934,592 bytes
+ *   or of a moved one:
+ *   7 DPX_SHORT    whoever stored the bytes: under 8 bytes
+ *   8 DPX_LENGTH   whoever stored the bytes: index or data, as for dpx_decode
+ *  10 DPX_FALLING  whoever stored the bytes: the first offset is not 0, or offsets fall
+ *   5 DPX_SIZE     whoever hands over the table: the stored last offset is over 8,589,934,592
+ *   last:
+ *   6 DPX_OUTPUT   whoever lends the area: it is too short for the next chunk; never where none is left
+ */
+uint32_t dpx_migrate_step(const uint64_t *shape, size_t shape_len,
+                          const uint64_t *subsets, size_t subsets_len,
+                          const uint64_t *old_lengths, size_t old_lengths_len,
+                          const uint8_t *old, size_t old_len,
+                          uint64_t moved,
+                          uint64_t *moved_lengths, size_t moved_lengths_len,
+                          uint8_t *area, size_t area_len,
+                          uint64_t lengths[2]);
+
+/*
+ * The cells of a subset out of a live table, however many of its chunks are moved.
+ *
+ * The values of the subset's cells, in row order, each from the chunk that holds it, end to end from offset 0. A subset of no
+ * cells is allowed: there are no values then, and the one offset 0. The table is not changed.
+ * What comes out is what the chunks, each read with its call and all put together with dpx_merge, have in these cells.
+ * Enough room: dpx_array_room with old_len + area_len. That is as many values as the cells have bytes, and one offset more than
+ * the subset has cells.
+ *
+ *   lengths[0]   value bytes written
+ *   lengths[1]   offsets written: cells of the subset + 1
+ *
+ * Refusals, in this order:
+ *   2 DPX_SHAPE    whoever describes the table
+ *   3 DPX_SUBSET   whoever describes the table: `subsets` as for dpx_merge, or `subset` as for dpx_extract
+ *   4 DPX_CONTENT  whoever hands over the table: as for dpx_migrate_step
+ *  12 DPX_COVER    whoever hands over the table: the subsets miss a cell or hold one twice, so also if there is none
+ *   for each chunk, in the order of the list, as for dpx_migrate_step; of an old one:
+ *   7 DPX_SHORT    whoever stored the bytes
+ *   9 DPX_COUNT    whoever stored the bytes
+ *  11 DPX_PAST_END whoever stored the bytes
+ *   5 DPX_SIZE     whoever hands over the table
+ *   or of a moved one:
+ *   7 DPX_SHORT    whoever stored the bytes
+ *   8 DPX_LENGTH   whoever stored the bytes
+ *  10 DPX_FALLING  whoever stored the bytes
+ *   5 DPX_SIZE     whoever hands over the table
+ *   then:
+ *   5 DPX_SIZE     whoever hands over the table: the cells of the subset sum up to over 8,589,934,592 bytes; what the other
+ *                  cells have does not count
+ *   6 DPX_OUTPUT   whoever lends the outputs
+ */
+uint32_t dpx_migrate_extract(const uint64_t *shape, size_t shape_len,
+                             const uint64_t *subsets, size_t subsets_len,
+                             const uint64_t *subset, size_t subset_len,
+                             const uint64_t *old_lengths, size_t old_lengths_len,
+                             const uint8_t *old, size_t old_len,
+                             uint64_t moved,
+                             const uint64_t *moved_lengths, size_t moved_lengths_len,
+                             const uint8_t *area, size_t area_len,
+                             uint8_t *out_values, size_t out_values_len,
+                             uint64_t *out_offsets, size_t out_offsets_len,
+                             uint64_t lengths[2]);
 
 #ifdef __cplusplus
 }

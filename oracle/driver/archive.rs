@@ -49,6 +49,11 @@ pub type GuestEditCall = unsafe extern "C" fn(DpxKind, u64, In8, usize, Out8, us
 #[rustfmt::skip]
 pub type ArrangementCall = unsafe extern "C" fn(u64, u64, u64, Out8, usize, Out8, usize, Out64, usize, Out64) -> u32;
 
+#[rustfmt::skip]
+pub type MigrateStepCall = unsafe extern "C" fn(In64, usize, In64, usize, In64, usize, In8, usize, u64, Out64, usize, Out8, usize, Out64) -> u32;
+#[rustfmt::skip]
+pub type MigrateExtractCall = unsafe extern "C" fn(In64, usize, In64, usize, In64, usize, In64, usize, In8, usize, u64, In64, usize, In8, usize, Out8, usize, Out64, usize, Out64) -> u32;
+
 /// The functions.
 #[derive(Clone, Copy)]
 pub struct Archive {
@@ -70,6 +75,8 @@ pub struct Archive {
     pub guest_read: GuestReadCall,
     pub guest_edit: GuestEditCall,
     pub arrangement: ArrangementCall,
+    pub migrate_step: MigrateStepCall,
+    pub migrate_extract: MigrateExtractCall,
 }
 impl Archive {
     pub fn load(path: &str) -> Result<Archive, String> {
@@ -104,6 +111,8 @@ impl Archive {
                 guest_read: transmute::<*mut c_void, GuestReadCall>(find(c"dpx_guest_read")?),
                 guest_edit: transmute::<*mut c_void, GuestEditCall>(find(c"dpx_guest_edit")?),
                 arrangement: transmute::<*mut c_void, ArrangementCall>(find(c"dpx_arrangement")?),
+                migrate_step: transmute::<*mut c_void, MigrateStepCall>(find(c"dpx_migrate_step")?),
+                migrate_extract: transmute::<*mut c_void, MigrateExtractCall>(find(c"dpx_migrate_extract")?),
             })
         }
     }

@@ -3,6 +3,7 @@
 
 use crate::arrangements;
 use crate::guests;
+use crate::live;
 use crate::request::{Request, Request::*};
 use crate::rng::Rng;
 use crate::tables;
@@ -73,7 +74,7 @@ pub fn cells_of(shape: &[u64]) -> usize {
     shape.iter().product::<u64>() as usize
 }
 /// A subset inside the shape, now and then an empty one.
-fn inside(rng: &mut Rng, shape: &[u64]) -> Vec<u64> {
+pub fn inside(rng: &mut Rng, shape: &[u64]) -> Vec<u64> {
     let mut subset = vec![0; 2 * shape.len()];
     for (i, &side) in shape.iter().enumerate() {
         let length = if rng.once_in(12) { 0 } else { 1 + rng.below(side as usize) as u64 };
@@ -83,7 +84,7 @@ fn inside(rng: &mut Rng, shape: &[u64]) -> Vec<u64> {
     subset
 }
 /// Subsets that cover the shape, each cell once: halved again and again.
-fn partition(rng: &mut Rng, shape: &[u64]) -> Vec<Vec<u64>> {
+pub fn partition(rng: &mut Rng, shape: &[u64]) -> Vec<Vec<u64>> {
     let sides = shape.len();
     let mut whole = vec![0; sides];
     whole.extend(shape);
@@ -113,7 +114,7 @@ fn partition(rng: &mut Rng, shape: &[u64]) -> Vec<Vec<u64>> {
 
 // ---------------------------------------------------------------- arrays and stored strings
 
-#[derive(Clone)]
+#[derive(Clone, PartialEq)]
 pub struct Content {
     pub masks: Vec<u8>,
     pub values: Vec<u8>,
@@ -324,7 +325,7 @@ pub fn a_number(rng: &mut Rng) -> u64 {
     }
 }
 /// Every one-byte change of three sorts, every cut, and some longer ones.
-fn each_damage(bytes: &[u8]) -> Vec<Vec<u8>> {
+pub fn each_damage(bytes: &[u8]) -> Vec<Vec<u8>> {
     let mut list = vec![];
     for at in 0..bytes.len() {
         for new in [bytes[at].wrapping_add(1), bytes[at].wrapping_sub(1), bytes[at] ^ 0x80, !bytes[at], 0] {
@@ -376,7 +377,7 @@ fn wrap_frame(rng: &mut Rng, bytes: &[u8], mask_length: usize) -> Vec<u8> {
     }
     copy
 }
-fn damaged(rng: &mut Rng, bytes: &[u8], masks: u64, cells: usize) -> Vec<u8> {
+pub fn damaged(rng: &mut Rng, bytes: &[u8], masks: u64, cells: usize) -> Vec<u8> {
     let mut copy = bytes.to_vec();
     let length = copy.len();
     let mask_length = judge::mask_bytes(masks == 1, cells);
@@ -582,8 +583,9 @@ fn faulty(rng: &mut Rng, request: &Request) -> Request {
             }
             faulty_content(rng, masks, values, offsets);
         }
-        GuestEdit { .. } => {}   // guests.rs
-        Arrangement { .. } => {} // arrangements.rs
+        GuestEdit { .. } => {}                           // guests.rs
+        Arrangement { .. } => {}                         // arrangements.rs
+        MigrateStep { .. } | MigrateExtract { .. } => {} // live.rs
     }
     r
 }
@@ -1699,6 +1701,7 @@ pub fn all(sink: &mut dyn Sink, seed: u64, requests: u64) {
     let rng = &mut Rng(seed);
     let tables = &mut Rng(seed ^ 0x7461_626C_6573); // their own, so that the others draw as they did
     let guests = &mut Rng(seed ^ 0x6775_6573_7473);
+    let moving = &mut Rng(seed ^ 0x6d6f_7669_6e67);
     for _ in 0..200 {
         random(sink, rng);
         random_packed(sink, rng);
@@ -1706,10 +1709,16 @@ pub fn all(sink: &mut dyn Sink, seed: u64, requests: u64) {
         random_load(sink, rng);
         tables::random(sink, tables);
         guests::random(sink, guests);
+        live::random(sink, moving);
     }
     arrangements::every(sink);
     arrangements::limits(sink);
     sink.long();
+    live::limits(sink, moving);
+    live::damages(sink, moving);
+    live::uncovered(sink, moving);
+    live::exhaustive(sink, moving);
+    live::many_cells(sink, moving);
     guests::limits(sink, guests);
     guests::exhaustive(sink, guests);
     guests::blocks(sink, guests);
@@ -1742,6 +1751,7 @@ pub fn all(sink: &mut dyn Sink, seed: u64, requests: u64) {
             random_load(sink, rng);
             tables::random(sink, tables);
             guests::random(sink, guests);
+            live::random(sink, moving);
         }
     }
 }

@@ -125,7 +125,7 @@ unsafe extern "C" {
 /// The archive's calls under guard.
 pub struct Guarded {
     pub archive: Archive,
-    numbers: [Edge; 3],
+    numbers: [Edge; 5],
     bytes: [Edge; 4],
     masks: Lent<u8>,
     values: Lent<u8>,
@@ -141,7 +141,7 @@ impl Guarded {
         let edge = || Edge::new(1 << 20);
         Guarded {
             archive,
-            numbers: [edge(), edge(), edge()],
+            numbers: [edge(), edge(), edge(), edge(), edge()],
             bytes: [edge(), edge(), edge(), edge()],
             masks: Lent::new(),
             values: Lent::new(),
@@ -170,7 +170,7 @@ impl Guarded {
             self.offsets.hold(&before.offsets);
             self.cell_lengths.hold(&before.lengths);
         }
-        let [n1, n2, n3] = &mut self.numbers;
+        let [n1, n2, n3, n4, n5] = &mut self.numbers;
         let [b1, b2, b3, b4] = &mut self.bytes;
         let a = &self.archive;
         unsafe {
@@ -255,6 +255,44 @@ impl Guarded {
                 Generate { kind, shape, start } => {
                     (a.generate)(c_kind(kind), n1.put(shape), shape.len(), *start, m, lent[0], v, lent[1], o, lent[2], n)
                 }
+                MigrateStep { live: t } => (a.migrate_step)(
+                    n1.put(&t.shape),
+                    t.shape.len(),
+                    n2.put(&t.subsets),
+                    t.subsets.len(),
+                    n3.put(&t.old_lengths),
+                    t.old_lengths.len(),
+                    b1.put(&t.old),
+                    t.old.len(),
+                    t.moved,
+                    l,
+                    lent[3],
+                    v,
+                    lent[1],
+                    n,
+                ),
+                MigrateExtract { live: t, subset } => (a.migrate_extract)(
+                    n1.put(&t.shape),
+                    t.shape.len(),
+                    n2.put(&t.subsets),
+                    t.subsets.len(),
+                    n4.put(subset),
+                    subset.len(),
+                    n3.put(&t.old_lengths),
+                    t.old_lengths.len(),
+                    b1.put(&t.old),
+                    t.old.len(),
+                    t.moved,
+                    n5.put(&t.moved_lengths),
+                    t.moved_lengths.len(),
+                    b2.put(&t.area),
+                    t.area.len(),
+                    v,
+                    lent[1],
+                    o,
+                    lent[2],
+                    n,
+                ),
                 Arrangement { depth, cells, number } => {
                     (a.arrangement)(*depth, *cells, *number, m, lent[0], v, lent[1], o, lent[2], n)
                 }
@@ -423,19 +461,19 @@ impl Guarded {
             return Some("masks output");
         }
         if !self.values.is(&r.values) {
-            return Some("values or store output");
+            return Some("values output, store or area");
         }
         if !self.offsets.is(&r.offsets) {
             return Some("offsets or starts output");
         }
         if !self.cell_lengths.is(&r.lengths) {
-            return Some("lengths of cells");
+            return Some("lengths of cells or chunks");
         }
         let lengths = if expected.is_ok() { request.named(r) } else { vec![] };
         if !self.lengths.is(&lengths) {
             return Some("lengths");
         }
-        let [n1, n2, n3] = &self.numbers;
+        let [n1, n2, n3, n4, n5] = &self.numbers;
         let [b1, b2, b3, b4] = &self.bytes;
         let kept = match request {
             Encode { shape, masks, values, offsets, .. } | EncodeInterleaved { shape, masks, values, offsets, .. } => {
@@ -463,6 +501,11 @@ impl Guarded {
             }
             GuestEdit { rights, cell_masks, value, .. } => b3.holds(rights) && b1.holds(cell_masks) && b2.holds(value),
             TablePack { table: t, .. } => b1.holds(&t.masks) && n2.holds(&t.lengths),
+            MigrateStep { live: t } => n1.holds(&t.shape) && n2.holds(&t.subsets) && n3.holds(&t.old_lengths) && b1.holds(&t.old),
+            MigrateExtract { live: t, subset } => {
+                let old = n1.holds(&t.shape) && n2.holds(&t.subsets) && n3.holds(&t.old_lengths) && b1.holds(&t.old);
+                old && n4.holds(subset) && n5.holds(&t.moved_lengths) && b2.holds(&t.area)
+            }
         };
         if kept { None } else { Some("an input was changed") }
     }
@@ -473,6 +516,7 @@ impl Guarded {
         let mut r = Results::default();
         if request.in_place().is_some() {
             r.whole = named.first().copied().unwrap_or(0);
+            r.second = named.get(1).copied().unwrap_or(0);
             r.masks = self.masks.inside().to_vec();
             r.values = self.values.inside().to_vec();
             r.offsets = self.offsets.inside().to_vec();
@@ -480,7 +524,7 @@ impl Guarded {
             return Some(r);
         }
         if let TablePreview { .. } = request {
-            (r.whole, r.unpacked) = (named[0], named[1]);
+            (r.whole, r.second) = (named[0], named[1]);
             return Some(r);
         }
         if let TableMake { .. } = request {

@@ -1,7 +1,7 @@
 //! The line format of oracle/data. One request with its answer a line: decimal numbers and hexadecimal bytes, one space between.
 //! See oracle/data/README.md.
 
-use crate::request::{Outcome, Request, Request::*, Results};
+use crate::request::{LiveTable, Outcome, Request, Request::*, Results};
 use judge::Table;
 
 fn put_number(line: &mut String, n: u64) {
@@ -31,6 +31,17 @@ fn put_table(line: &mut String, t: &Table) {
     put_numbers(line, &t.starts);
     put_numbers(line, &t.lengths);
     put_bytes(line, &t.store);
+}
+
+fn put_live(line: &mut String, t: &LiveTable, subset: Option<&[u64]>) {
+    put_numbers(line, &t.shape);
+    put_numbers(line, &t.subsets);
+    subset.into_iter().for_each(|subset| put_numbers(line, subset));
+    put_numbers(line, &t.old_lengths);
+    put_bytes(line, &t.old);
+    put_number(line, t.moved);
+    put_numbers(line, &t.moved_lengths);
+    put_bytes(line, &t.area);
 }
 
 pub fn request_line(request: &Request) -> String {
@@ -125,6 +136,8 @@ pub fn request_line(request: &Request) -> String {
             put_bytes(l, value);
         }
         Arrangement { depth, cells, number } => [depth, cells, number].into_iter().for_each(|&n| put_number(l, n)),
+        MigrateStep { live } => put_live(l, live, None),
+        MigrateExtract { live, subset } => put_live(l, live, Some(subset)),
     }
     line
 }
@@ -135,11 +148,11 @@ pub fn line(request: &Request, outcome: &Outcome) -> String {
         Err(refusal) => put_number(&mut line, u64::from(*refusal)),
         Ok(r) => {
             put_number(&mut line, 0);
-            if let ReverseEndianness { .. } | TablePack { .. } | TablePreview { .. } = request {
+            if let ReverseEndianness { .. } | TablePack { .. } | TablePreview { .. } | MigrateStep { .. } = request {
                 put_number(&mut line, r.whole);
             }
-            if let TablePreview { .. } = request {
-                put_number(&mut line, r.unpacked);
+            if let TablePreview { .. } | MigrateStep { .. } = request {
+                put_number(&mut line, r.second);
             }
             let [masks, values, offsets, lengths] = request.slots();
             if masks {
@@ -162,9 +175,9 @@ pub fn line(request: &Request, outcome: &Outcome) -> String {
     line
 }
 
-/// Masks, starts, lengths and store, in this order, as far as the call lends them.
+/// Masks, starts, lengths and store or area, in this order, as far as the call lends them.
 fn table_comes_out(request: &Request) -> bool {
-    matches!(request, TableMake { .. } | TableSet { .. } | TablePack { .. } | GuestEdit { .. })
+    matches!(request, TableMake { .. } | TableSet { .. } | TablePack { .. } | GuestEdit { .. } | MigrateStep { .. })
 }
 
 /// The words of a line.
@@ -196,6 +209,14 @@ impl<'a> Words<'a> {
     }
     fn table(&mut self) -> Result<Table, String> {
         Ok(Table { masks: self.bytes()?, starts: self.numbers()?, lengths: self.numbers()?, store: self.bytes()? })
+    }
+    /// And the subset, where one is asked for.
+    fn live(&mut self, asked: bool) -> Result<(LiveTable, Vec<u64>), String> {
+        let (shape, subsets) = (self.numbers()?, self.numbers()?);
+        let subset = if asked { self.numbers()? } else { vec![] };
+        let (old_lengths, old, moved) = (self.numbers()?, self.bytes()?, self.number()?);
+        let (moved_lengths, area) = (self.numbers()?, self.bytes()?);
+        Ok((LiveTable { shape, subsets, old_lengths, old, moved, moved_lengths, area }, subset))
     }
 }
 
@@ -283,6 +304,11 @@ pub fn parse(text: &str) -> Result<(Request, Option<Outcome>), String> {
             value: w.bytes()?,
         },
         18 => Arrangement { depth: w.number()?, cells: w.number()?, number: w.number()? },
+        19 => MigrateStep { live: w.live(false)?.0 },
+        20 => {
+            let (live, subset) = w.live(true)?;
+            MigrateExtract { live, subset }
+        }
         n => return Err(format!("no such call: {n}")),
     };
     if w.0.clone().next().is_none() {
@@ -291,11 +317,11 @@ pub fn parse(text: &str) -> Result<(Request, Option<Outcome>), String> {
     let outcome = match w.number()? {
         0 => {
             let mut r = Results::default();
-            if let ReverseEndianness { .. } | TablePack { .. } | TablePreview { .. } = request {
+            if let ReverseEndianness { .. } | TablePack { .. } | TablePreview { .. } | MigrateStep { .. } = request {
                 r.whole = w.number()?;
             }
-            if let TablePreview { .. } = request {
-                r.unpacked = w.number()?;
+            if let TablePreview { .. } | MigrateStep { .. } = request {
+                r.second = w.number()?;
             }
             let [masks, values, offsets, lengths] = request.slots();
             if masks {

@@ -8,7 +8,7 @@ use crate::request::Results;
 use crate::rust::BUILDS;
 use crate::tables::STORE;
 use crate::{Compare, say};
-use judge::{Array, MAX_FIELD, MAX_VALUE_BYTES, Refusal, Value, fits, length_of};
+use judge::{Array, Live, MAX_FIELD, MAX_VALUE_BYTES, Refusal, Value, fits, length_of};
 use std::ffi::{c_int, c_void};
 
 /// Elements of an output that is lent; all results fit.
@@ -88,6 +88,8 @@ const PARTIAL_DECODE: usize = 5;
 const ENCODE_INTERLEAVED: usize = 8;
 const TABLE_MAKE: usize = 10;
 const GUEST_READ: usize = 15;
+const MIGRATE_STEP: usize = 18;
+const MIGRATE_EXTRACT: usize = 19;
 
 impl Compare {
     /// The archive's call with outputs of ROOM elements, and with none, held to the judge: answer, lengths and outputs. `named`: what success names.
@@ -251,6 +253,42 @@ impl Compare {
         });
     }
 
+    /// A live table over long strings: a cut, and a step that is refused or has none left, so that the area is not written.
+    fn migrates(&mut self, t: Live<'_>, subset: &[u64]) {
+        let archive = self.guarded.archive;
+        let what = format!(
+            "subsets {:?}, subset {subset:?}, old lengths {:?}, {} moved, of lengths {:?}",
+            t.subsets, t.old_lengths, t.moved, t.moved_lengths
+        );
+        let (sp, sl, lp, ll) = (t.shape.as_ptr(), t.shape.len(), t.subsets.as_ptr(), t.subsets.len());
+        let (op, ol, bp, bl) = (t.old_lengths.as_ptr(), t.old_lengths.len(), t.old.as_ptr(), t.old.len());
+        let judged = of_array(judge::migrate_extract(&t, subset));
+        let named = |r: &Results| vec![r.values.len() as u64, r.offsets.len() as u64];
+        self.held(MIGRATE_EXTRACT, &what, &judged, named, |out, room| unsafe {
+            let (v, o, n) = (out.values.as_mut_ptr(), out.offsets.as_mut_ptr(), out.named.as_mut_ptr());
+            let (mp, ml, ap, al) = (t.moved_lengths.as_ptr(), t.moved_lengths.len(), t.area.as_ptr(), t.area.len());
+            let (np, nl) = (subset.as_ptr(), subset.len());
+            (archive.migrate_extract)(sp, sl, lp, ll, np, nl, op, ol, bp, bl, t.moved, mp, ml, ap, al, v, room, o, room, n)
+        });
+        let judged = judge::migrate_step(&t).map(|step| {
+            assert!(step.is_none(), "a long string would be entered");
+            Results::default()
+        });
+        self.held(
+            MIGRATE_STEP,
+            &what,
+            &judged,
+            |_| vec![0, t.moved],
+            |out, _| unsafe {
+                let mut lengths = t.moved_lengths.to_vec();
+                let (mp, ml, ap, al) = (lengths.as_mut_ptr(), lengths.len(), t.area.as_ptr().cast_mut(), t.area.len());
+                let n = out.named.as_mut_ptr();
+                let answer = (archive.migrate_step)(sp, sl, lp, ll, op, ol, bp, bl, t.moved, mp, ml, ap, al, n);
+                if lengths == t.moved_lengths { answer } else { u32::MAX }
+            },
+        );
+    }
+
     /// A working table of one cell, in a store of so many bytes: its answer alone.
     fn makes(&mut self, zeros: &Zeros, a: Long, store: usize) {
         let values = &zeros.0[..a.offsets[1] as usize];
@@ -401,6 +439,56 @@ impl Compare {
         let third = 4 + 2 * (4 + FIELD);
         older.put(third, &3u32.to_le_bytes());
         self.reads_older(3, &older.0[..third as usize + 4 + 3]);
+        self.long_tables(&older, &mut string);
         self.stop_if_asked();
+    }
+
+    /// Live tables: a chunk around the limit, old and moved, alone and beside one that cannot be read; and a cut around it of chunks that are shorter.
+    fn long_tables(&mut self, older: &Zeros, area: &mut Zeros) {
+        const MOST: u64 = MAX_VALUE_BYTES;
+        let shape = &[4][..];
+        let third = 4 + 2 * (4 + MAX_FIELD) + 4 + 3;
+        let short = [&1u32.to_le_bytes()[..], &[0; 4]].concat();
+        // as the old string of three cells is left: their sum is one byte more than the limit. The other chunk before it, and behind
+        for (subsets, old_lengths) in [([0, 3, 3, 1], [third, 8]), ([3, 1, 0, 3], [0, third])] {
+            let old = &older.0[..(old_lengths[0] + old_lengths[1]) as usize];
+            let t =
+                Live { shape, subsets: &subsets, old_lengths: &old_lengths, old, moved: 0, moved_lengths: &[0; 2], area: &[] };
+            [[0, 4], [3, 1], [0, 0], [4, 1]].iter().for_each(|subset| self.migrates(t, subset));
+        }
+        let old = &older.0[..third as usize];
+        for (moved_lengths, moved) in [(&[0][..], 0), (&[0], 1), (&[], 0)] {
+            let t = Live { shape: &[3], subsets: &[0, 3], old_lengths: &[third], old, moved, moved_lengths, area: &[] };
+            self.migrates(t, &[0, 1]);
+            self.migrates(Live { subsets: &[0, 2], ..t }, &[0, 1]);
+        }
+        // moved: three bytes behind as many as the limit, or one more; 5 is of a chunk, or of the cut alone
+        for (cell, second) in [(MOST, 3), (MOST + 1, 3), (MOST, 0), (MOST - 3, 3), (MOST - 2, 3)] {
+            let strings = [24 + cell, 24 + second];
+            let tail = [&16u64.to_le_bytes()[..], &[0; 8], &second.to_le_bytes(), &[7; 3][..second as usize]].concat();
+            area.put(0, &[&16u64.to_le_bytes()[..], &[0; 8], &cell.to_le_bytes()].concat());
+            area.put(strings[0], &tail);
+            let moved = &area.0[..(strings[0] + strings[1]) as usize];
+            let (subsets, old_lengths) = ([0, 1, 1, 1], [0, short.len() as u64]);
+            let t = Live {
+                shape: &[2],
+                subsets: &subsets,
+                old_lengths: &[0; 2],
+                old: &[],
+                moved: 2,
+                moved_lengths: &strings,
+                area: moved,
+            };
+            let last = Live { old_lengths: &old_lengths, old: &short, moved: 1, area: &moved[..strings[0] as usize], ..t };
+            for subset in [[1, 1], [1, 0], [0, 3]] {
+                self.migrates(t, &subset);
+                self.migrates(last, &subset);
+                self.migrates(Live { old: &short[..7], old_lengths: &[0, 7], ..last }, &subset);
+            }
+            if cell + second > MOST {
+                self.migrates(t, &[0, 2]);
+            }
+            area.put(strings[0], &vec![0; tail.len()]);
+        }
     }
 }

@@ -17,6 +17,7 @@ mod guarded;
 mod guests;
 mod hidden;
 mod lines;
+mod live;
 mod long;
 mod record;
 mod request;
@@ -29,6 +30,7 @@ use arrangements::{Arranged, Rows};
 use cases::Sink;
 use guarded::Guarded;
 use hidden::{NONE, hidden};
+use live::Migrations;
 use request::{CALLS, Outcome, REFUSALS, Request};
 use rng::Rng;
 use rust::{BUILDS, Body, body};
@@ -120,7 +122,7 @@ impl Tables {
                 let others: u64 = table.lengths.iter().sum::<u64>() - table.lengths[*cell as usize];
                 self.previews[0] += 1;
                 self.previews[1] += u64::from(top > others && after.whole - others > table.store.len() as u64 - top);
-                self.previews[2] += u64::from(after.unpacked > 0);
+                self.previews[2] += u64::from(after.second > 0);
             }
             _ => {}
         }
@@ -155,6 +157,7 @@ struct Counts {
     tables: Tables,
     guests: Guests,
     arranged: Arranged,
+    migrations: Migrations,
     /// Requests of long arrays, which are in no other count.
     long: u64,
     /// By mask form, as in MASKS.
@@ -166,7 +169,7 @@ struct Counts {
     /// As in BETWEEN.
     differences: [u64; BETWEEN.len()],
 }
-const BETWEEN: [&str; 13] = [
+const BETWEEN: [&str; 15] = [
     "archive and judge",
     "archive and Rust",
     "judge and Rust",
@@ -180,6 +183,8 @@ const BETWEEN: [&str; 13] = [
     "reads before a merge and one behind it",
     "an arrangement and its row",
     "an arrangement and what is read of it again",
+    "cuts of a live table before and after steps",
+    "a live table and its chunks, read and merged",
 ];
 
 fn say(outcome: &Outcome) -> String {
@@ -375,7 +380,7 @@ impl Compare {
             }
             refusal => Err(refusal),
         };
-        let foreseen = foreseen.as_ref().map(|r| [r.whole, r.unpacked]).map_err(|refusal| *refusal);
+        let foreseen = foreseen.as_ref().map(|r| [r.whole, r.second]).map_err(|refusal| *refusal);
         if foreseen != after {
             self.differ(4, request, &format!("{foreseen:?}, but then {after:?}"));
         }
@@ -470,6 +475,7 @@ impl Compare {
         self.edited_on_a_copy(request, &observed);
         self.rights_combined(request, judged);
         self.arranged(request, &observed);
+        self.migrated(request, judged);
         self.stop_if_asked();
     }
 
@@ -535,6 +541,7 @@ impl Compare {
             combined[0], combined[1], combined[2]
         );
         println!("{}", self.counts.arranged);
+        println!("{}", self.counts.migrations);
         println!(
             "a mask byte over 01: stored, refused with 14, in {} requests; handed over in {}",
             self.counts.requests[1][14], self.counts.over_01

@@ -1,7 +1,25 @@
 //! A request is one call with all that is handed over; an outcome is its answer with the results by slot. The store of `table_make` is
 //! lent with the length that the request says: its answer goes by it.
 
-use judge::{KindNumbers, Table};
+use judge::{KindNumbers, Live, Table};
+
+/// A live table: all that its calls are handed, but for the subset of a cut.
+#[derive(Clone, Debug, Default, PartialEq)]
+pub struct LiveTable {
+    pub shape: Vec<u64>,
+    pub subsets: Vec<u64>,
+    pub old_lengths: Vec<u64>,
+    pub old: Vec<u8>,
+    pub moved: u64,
+    pub moved_lengths: Vec<u64>,
+    pub area: Vec<u8>,
+}
+impl LiveTable {
+    pub fn lent(&self) -> Live<'_> {
+        let LiveTable { shape, subsets, old_lengths, old, moved, moved_lengths, area } = self;
+        Live { shape, subsets, old_lengths, old, moved: *moved, moved_lengths, area }
+    }
+}
 
 #[derive(Clone, Debug, PartialEq)]
 pub enum Request {
@@ -23,11 +41,13 @@ pub enum Request {
     GuestRead { kind: KindNumbers, shape: Vec<u64>, rights: Vec<u8>, masks: Vec<u8>, values: Vec<u8>, offsets: Vec<u64> },
     GuestEdit { kind: KindNumbers, cells: u64, rights: Vec<u8>, table: Table, cell: u64, cell_masks: Vec<u8>, value: Vec<u8> },
     Arrangement { depth: u64, cells: u64, number: u64 },
+    MigrateStep { live: LiveTable },
+    MigrateExtract { live: LiveTable, subset: Vec<u64> },
 }
 use Request::*;
 
 /// In the order of the numbers that they have in oracle/data: a new call is the last.
-pub const CALLS: [&str; 18] = [
+pub const CALLS: [&str; 20] = [
     "encode",
     "decode",
     "decode_interleaved",
@@ -46,11 +66,13 @@ pub const CALLS: [&str; 18] = [
     "guest_read",
     "guest_edit",
     "arrangement",
+    "migrate_step",
+    "migrate_extract",
 ];
 
 /// The refusals that a call can give, by docs/DECISIONS.md, part 0. At the C boundary width and place come as numbers, so
 /// `partial_decode` has 1 as well.
-pub const REFUSALS: [&[u32]; 18] = [
+pub const REFUSALS: [&[u32]; 20] = [
     &[1, 2, 4, 5, 20, 6],
     &[1, 2, 7, 8, 13, 14, 10, 5, 6],
     &[2, 7, 9, 11, 5, 6],
@@ -69,20 +91,24 @@ pub const REFUSALS: [&[u32]; 18] = [
     &[1, 2, 17, 4, 5, 6],
     &[1, 2, 17, 4, 5, 15, 18, 16],
     &[1, 19, 6],
+    &[2, 3, 4, 12, 7, 9, 11, 8, 10, 5, 6],
+    &[2, 3, 4, 12, 7, 9, 11, 8, 10, 5, 6],
 ];
 
 /// Results by slot: a call uses some of masks (or none), values (the stored bytes of `encode`, the bytes of `reverse_endianness`, the
-/// store of a working table), offsets (the cells of `subset_cells`, the starts of a table) and a table's lengths.
+/// store of a working table, the area of a live one), offsets (the cells of `subset_cells`, the starts of a table) and lengths (of a working
+/// table's cells, of the chunks of a live one that are moved).
 #[derive(Clone, Debug, Default, PartialEq)]
 pub struct Results {
     pub masks: Vec<u8>,
     pub values: Vec<u8>,
     pub offsets: Vec<u64>,
     pub lengths: Vec<u64>,
-    /// Of `reverse_endianness` the length of the whole cells, of `table_pack` how many cells were moved, of `table_preview` the sum of lengths.
+    /// Of `reverse_endianness` the length of the whole cells, of `table_pack` how many cells were moved, of `table_preview` the sum of lengths,
+    /// of `migrate_step` how many bytes were entered.
     pub whole: u64,
-    /// Of `table_preview` how many cells are not packed.
-    pub unpacked: u64,
+    /// Of `table_preview` how many cells are not packed, of `migrate_step` how many chunks are moved.
+    pub second: u64,
 }
 impl From<judge::Array> for Results {
     fn from(a: judge::Array) -> Self {
@@ -96,6 +122,20 @@ impl From<Table> for Results {
 }
 
 pub type Outcome = Result<Results, u32>;
+
+/// What a step leaves behind.
+fn stepped(live: &LiveTable, step: Option<judge::Step<'_>>) -> Results {
+    let mut r =
+        Results { values: live.area.clone(), lengths: live.moved_lengths.clone(), second: live.moved, ..Results::default() };
+    if let Some(step) = step {
+        let string = step.string.concat();
+        r.values[step.at..][..string.len()].copy_from_slice(&string);
+        r.whole = string.len() as u64;
+        r.lengths[live.moved as usize] = r.whole;
+        r.second += 1;
+    }
+    r
+}
 
 impl Request {
     pub fn call(&self) -> usize {
@@ -118,6 +158,8 @@ impl Request {
             GuestRead { .. } => 15,
             GuestEdit { .. } => 16,
             Arrangement { .. } => 17,
+            MigrateStep { .. } => 18,
+            MigrateExtract { .. } => 19,
         }
     }
 
@@ -175,16 +217,21 @@ impl Request {
             [true, true, true, false],
             [true, true, true, true],
             [true, true, true, false],
+            [false, true, false, true],
+            [false, true, true, false],
         ][self.call()]
     }
 
-    /// What is lent in place, as it is before the call: the bytes of `reverse_endianness`, the lists of a table.
+    /// What is lent in place, as it is before the call: the bytes of `reverse_endianness`, the lists of a table, a live table's area and lengths.
     pub fn in_place(&self) -> Option<Results> {
         match self {
             ReverseEndianness { bytes, .. } => Some(Results { values: bytes.clone(), ..Results::default() }),
             TableSet { table, .. } | GuestEdit { table, .. } => Some(table.clone().into()),
             TablePack { table, .. } => {
                 Some(Results { values: table.store.clone(), offsets: table.starts.clone(), ..Results::default() })
+            }
+            MigrateStep { live } => {
+                Some(Results { values: live.area.clone(), lengths: live.moved_lengths.clone(), ..Results::default() })
             }
             _ => None,
         }
@@ -197,7 +244,7 @@ impl Request {
         match self {
             ReverseEndianness { .. } | TablePack { .. } => vec![r.whole],
             TableSet { .. } | GuestEdit { .. } => vec![],
-            TablePreview { .. } => vec![r.whole, r.unpacked],
+            TablePreview { .. } | MigrateStep { .. } => vec![r.whole, r.second],
             TableMake { .. } => vec![masks, offsets, lengths, values],
             _ => {
                 let slots = self.slots();
@@ -249,7 +296,7 @@ impl Request {
             }),
             TablePreview { kind, cells, table, cell, cell_masks, value } => {
                 let foreseen = judge::table_preview(*kind, *cells, table, *cell, cell_masks, value);
-                foreseen.map(|[whole, unpacked]| Results { whole, unpacked, ..Results::default() })
+                foreseen.map(|[whole, second]| Results { whole, second, ..Results::default() })
             }
             GuestRead { kind, shape, rights, masks, values, offsets } => {
                 judge::guest_read(*kind, shape, rights, masks, values, offsets).map(Results::from)
@@ -258,6 +305,8 @@ impl Request {
                 judge::guest_edit(*kind, *cells, rights, table, *cell, cell_masks, value).map(Results::from)
             }
             Arrangement { depth, cells, number } => judge::arrangement(*depth, *cells, *number).map(Results::from),
+            MigrateStep { live } => judge::migrate_step(&live.lent()).map(|step| stepped(live, step)),
+            MigrateExtract { live, subset } => judge::migrate_extract(&live.lent(), subset).map(Results::from),
         }
     }
 
@@ -282,6 +331,9 @@ impl Request {
             | TablePack { table, .. }
             | TablePreview { table, .. }
             | GuestEdit { table, .. } => table.masks.len() + table.starts.len() + table.lengths.len() + table.store.len(),
+            MigrateStep { live } | MigrateExtract { live, .. } => {
+                live.subsets.len() + live.old_lengths.len() + live.old.len() + live.moved_lengths.len() + live.area.len()
+            }
         }
     }
 }

@@ -74,6 +74,7 @@ pub fn body(request: &Request) -> Body {
         TableMake { .. } | TableRead { .. } | TableSet { .. } | TablePack { .. } | TablePreview { .. } => Body::None,
         GuestRead { kind, .. } if kind[0] > 0 => Body::AsRest,
         GuestRead { .. } | GuestEdit { .. } | Arrangement { .. } => Body::None,
+        MigrateStep { .. } | MigrateExtract { .. } => Body::None,
         _ => Body::Own,
     }
 }
@@ -133,7 +134,7 @@ impl Build {
                 let stored = (self.encode)(four(kind), shape, &masks, values, offsets)?;
                 (self.decode)(four(kind), shape, &stored).map(array)
             }
-            GuestEdit { .. } | Arrangement { .. } => unreachable!(),
+            GuestEdit { .. } | Arrangement { .. } | MigrateStep { .. } | MigrateExtract { .. } => unreachable!(),
         }
     }
 }

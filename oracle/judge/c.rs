@@ -77,17 +77,22 @@ unsafe fn deliver_two(
     answer
 }
 
+/// Pieces end to end.
+unsafe fn put_pieces(pieces: &[Value<'_>], to: *mut u8) {
+    let mut at = 0;
+    for piece in pieces {
+        unsafe { put(piece, to.add(at)) };
+        at += piece.len();
+    }
+}
+
 /// Written bytes into one lent output.
 unsafe fn deliver_bytes(pieces: Result<Vec<Value<'_>>, Refusal>, out: (*mut u8, usize), lengths: *mut u64) -> u32 {
     number((|| unsafe {
         let pieces = pieces?;
         let bytes = length_of(&pieces);
         fits(&[bytes], &[out.1])?;
-        let mut at = 0;
-        for piece in &pieces {
-            put(piece, out.0.add(at));
-            at += piece.len();
-        }
+        put_pieces(&pieces, out.0);
         put(&[bytes as u64], lengths);
         Ok(())
     })())
@@ -632,5 +637,82 @@ pub unsafe extern "C" fn dpx_arrangement(
             (out_offsets, out_offsets_count),
             lengths,
         )
+    }
+}
+
+#[unsafe(no_mangle)]
+pub unsafe extern "C" fn dpx_migrate_step(
+    shape: *const u64,
+    shape_count: usize,
+    subsets: *const u64,
+    subsets_count: usize,
+    old_lengths: *const u64,
+    old_lengths_count: usize,
+    old: *const u8,
+    old_count: usize,
+    moved: u64,
+    moved_lengths: *mut u64,
+    moved_lengths_count: usize,
+    area: *mut u8,
+    area_count: usize,
+    lengths: *mut u64,
+) -> u32 {
+    number((|| unsafe {
+        let live = Live {
+            shape: given(shape, shape_count),
+            subsets: given(subsets, subsets_count),
+            old_lengths: given(old_lengths, old_lengths_count),
+            old: given(old, old_count),
+            moved,
+            moved_lengths: given(moved_lengths, moved_lengths_count),
+            area: given(area, area_count),
+        };
+        let Some(step) = migrate_step(&live)? else {
+            put(&[0, moved], lengths);
+            return Ok(());
+        };
+        let entered = length_of(&step.string) as u64;
+        put_pieces(&step.string, area.add(step.at));
+        put(&[entered], moved_lengths.add(moved as usize));
+        put(&[entered, moved + 1], lengths);
+        Ok(())
+    })())
+}
+
+#[unsafe(no_mangle)]
+pub unsafe extern "C" fn dpx_migrate_extract(
+    shape: *const u64,
+    shape_count: usize,
+    subsets: *const u64,
+    subsets_count: usize,
+    subset: *const u64,
+    subset_count: usize,
+    old_lengths: *const u64,
+    old_lengths_count: usize,
+    old: *const u8,
+    old_count: usize,
+    moved: u64,
+    moved_lengths: *const u64,
+    moved_lengths_count: usize,
+    area: *const u8,
+    area_count: usize,
+    out_values: *mut u8,
+    out_values_count: usize,
+    out_offsets: *mut u64,
+    out_offsets_count: usize,
+    lengths: *mut u64,
+) -> u32 {
+    unsafe {
+        let live = Live {
+            shape: given(shape, shape_count),
+            subsets: given(subsets, subsets_count),
+            old_lengths: given(old_lengths, old_lengths_count),
+            old: given(old, old_count),
+            moved,
+            moved_lengths: given(moved_lengths, moved_lengths_count),
+            area: given(area, area_count),
+        };
+        let cut = migrate_extract(&live, given(subset, subset_count));
+        deliver_two(cut, (out_values, out_values_count), (out_offsets, out_offsets_count), lengths)
     }
 }

@@ -1,4 +1,4 @@
-//! The judge: what docs/SPEC.md and docs/DECISIONS.md say of the eighteen calls, as plain code.
+//! The judge: what docs/SPEC.md and docs/DECISIONS.md say of the twenty calls, as plain code.
 //!
 //! Each function takes what the call takes, as numbers and slices, and gives the result or the refusal number. Outputs are not lent:
 //! `fits` says where a lent output is too short (6), and c.rs puts a result into lent outputs.
@@ -419,6 +419,11 @@ fn read_ragged(width: usize, end: bool, cells: usize, bytes: &[u8]) -> Result<(&
 // ---------------------------------------------------------------- decode_interleaved
 
 pub fn decode_interleaved(cells: u64, bytes: &[u8]) -> Result<Array, Refusal> {
+    let values = read_interleaved(cells, bytes)?;
+    Ok(array_of(Form::Ragged { width: 4, end: false }, &[], &values))
+}
+
+fn read_interleaved(cells: u64, bytes: &[u8]) -> Result<Vec<&[u8]>, Refusal> {
     if cells > MAX_CELLS {
         return Err(2);
     }
@@ -446,7 +451,7 @@ pub fn decode_interleaved(cells: u64, bytes: &[u8]) -> Result<Array, Refusal> {
     if offsets[cells as usize] > MAX_VALUE_BYTES {
         return Err(5);
     }
-    Ok(Array { masks: vec![], values: values.concat(), offsets })
+    Ok(values)
 }
 
 // ---------------------------------------------------------------- encode_interleaved
@@ -513,6 +518,37 @@ pub fn generate(k: KindNumbers, shape: &[u64], start: u32) -> Result<Array, Refu
 
 // ---------------------------------------------------------------- extract, merge, partial_decode
 
+/// Of each subset of a list, none of which is empty.
+fn cells_of_chunks(shape: &[u64], subsets: &[u64]) -> Result<Vec<Vec<usize>>, Refusal> {
+    let numbers = 2 * shape.len();
+    if subsets.len() % numbers != 0 {
+        return Err(3);
+    }
+    let mut boxes = vec![];
+    for subset in subsets.chunks(numbers) {
+        let chunk = cells_of_subset(shape, subset)?;
+        if chunk.is_empty() {
+            return Err(3);
+        }
+        boxes.push(chunk);
+    }
+    Ok(boxes)
+}
+
+/// 12 where not each cell is in just one chunk.
+fn check_cover(cells: usize, boxes: &[Vec<usize>]) -> Result<(), Refusal> {
+    let mut held = vec![0; cells];
+    for chunk in boxes {
+        for &cell in chunk {
+            held[cell] += 1;
+        }
+    }
+    if held.iter().any(|&times| times != 1) {
+        return Err(12);
+    }
+    Ok(())
+}
+
 pub fn extract(
     k: KindNumbers,
     shape: &[u64],
@@ -541,18 +577,7 @@ pub fn merge(
 ) -> Result<Array, Refusal> {
     let kind = kind(k)?;
     let cells = shape_cells(shape)?;
-    let numbers = 2 * shape.len();
-    if subsets.len() % numbers != 0 {
-        return Err(3);
-    }
-    let mut boxes = vec![];
-    for subset in subsets.chunks(numbers) {
-        let chunk = cells_of_subset(shape, subset)?;
-        if chunk.is_empty() {
-            return Err(3);
-        }
-        boxes.push(chunk);
-    }
+    let boxes = cells_of_chunks(shape, subsets)?;
 
     // 4: the totals that subsets and last offsets imply are the lengths given, and each chunk keeps the array's rules
     let all: usize = boxes.iter().map(Vec::len).sum();
@@ -595,15 +620,7 @@ pub fn merge(
     }
 
     // 12: each cell once
-    let mut held = vec![0; cells];
-    for chunk in &boxes {
-        for &cell in chunk {
-            held[cell] += 1;
-        }
-    }
-    if held.iter().any(|&times| times != 1) {
-        return Err(12);
-    }
+    check_cover(cells, &boxes)?;
 
     let mut merged_planes = vec![vec![0; cells]; kind.depth];
     let mut merged_values = vec![Value::default(); cells];
@@ -1003,6 +1020,122 @@ pub fn arrangement(depth: u64, cells: u64, number: u64) -> Result<Array, Refusal
         values.push(value);
     }
     Ok(array_of(Form::Ragged { width: 4, end: false }, &planes, &values))
+}
+
+// ---------------------------------------------------------------- live tables
+
+/// A table whose chunks leave the interleaved form one by one. The first ones are moved, so many; their strings are in the area.
+#[derive(Clone, Copy)]
+pub struct Live<'a> {
+    pub shape: &'a [u64],
+    pub subsets: &'a [u64],
+    pub old_lengths: &'a [u64],
+    pub old: &'a [u8],
+    pub moved: u64,
+    pub moved_lengths: &'a [u64],
+    pub area: &'a [u8],
+}
+
+/// Of moved chunks.
+const MOVED: Form = Form::Ragged { width: 8, end: false };
+
+fn sum(lengths: &[u64]) -> u128 {
+    lengths.iter().map(|&length| u128::from(length)).sum()
+}
+
+/// Strings that lie end to end.
+fn strings<'a>(lengths: &[u64], bytes: &'a [u8]) -> Vec<&'a [u8]> {
+    let mut rest = bytes;
+    let mut list = vec![];
+    for &length in lengths {
+        let (string, behind) = rest.split_at(length as usize);
+        list.push(string);
+        rest = behind;
+    }
+    list
+}
+
+impl<'a> Live<'a> {
+    /// 4: lengths of lists, the sum of the old lengths, too many moved, and the sum of their lengths.
+    fn check(&self, chunks: usize) -> Result<(), Refusal> {
+        if self.old_lengths.len() != chunks {
+            return Err(4);
+        }
+        if self.moved_lengths.len() != chunks {
+            return Err(4);
+        }
+        if sum(self.old_lengths) != self.old.len() as u128 {
+            return Err(4);
+        }
+        if self.moved > chunks as u64 {
+            return Err(4);
+        }
+        if sum(self.new_lengths()) > self.area.len() as u128 {
+            return Err(4);
+        }
+        Ok(())
+    }
+
+    /// Of the chunks that are moved.
+    fn new_lengths(&self) -> &'a [u64] {
+        &self.moved_lengths[..self.moved as usize]
+    }
+
+    /// The values of each chunk, or the first refusal: 4, 12, and then chunk by chunk that of its reader.
+    fn values(&self, cells: usize, boxes: &[Vec<usize>]) -> Result<Vec<Vec<Value<'a>>>, Refusal> {
+        self.check(boxes.len())?;
+        check_cover(cells, boxes)?;
+        let (old, new) = (strings(self.old_lengths, self.old), strings(self.new_lengths(), self.area));
+        let mut chunks = vec![];
+        for (at, chunk) in boxes.iter().enumerate() {
+            let cells = chunk.len();
+            chunks.push(if at < new.len() {
+                read_values(MOVED, cells, new[at])?
+            } else {
+                read_interleaved(cells as u64, old[at])?.into_iter().map(Value::from).collect()
+            });
+        }
+        Ok(chunks)
+    }
+}
+
+/// The cells of a subset, each from the chunk that holds it.
+pub fn migrate_extract(live: &Live<'_>, subset: &[u64]) -> Result<Array, Refusal> {
+    let cells = shape_cells(live.shape)?;
+    let boxes = cells_of_chunks(live.shape, live.subsets)?;
+    let picked = cells_of_subset(live.shape, subset)?;
+    let chunks = live.values(cells, &boxes)?;
+    let mut table = vec![Value::default(); cells];
+    for (chunk, own) in boxes.iter().zip(chunks) {
+        for (&cell, value) in chunk.iter().zip(own) {
+            table[cell] = value;
+        }
+    }
+    let cut = pick(&table, &picked);
+    if length_of(&cut) as u64 > MAX_VALUE_BYTES {
+        return Err(5);
+    }
+    Ok(array_of(MOVED, &[], &cut))
+}
+
+/// What a step enters: the string of the next chunk, in pieces, and where it begins in the area.
+pub struct Step<'a> {
+    pub at: usize,
+    pub string: Vec<Value<'a>>,
+}
+
+/// `None` where none is left.
+pub fn migrate_step<'a>(live: &Live<'a>) -> Result<Option<Step<'a>>, Refusal> {
+    let cells = shape_cells(live.shape)?;
+    let boxes = cells_of_chunks(live.shape, live.subsets)?;
+    let chunks = live.values(cells, &boxes)?;
+    let Some(next) = chunks.get(live.moved as usize) else {
+        return Ok(None);
+    };
+    let string = write_values(MOVED, next)?;
+    let at = sum(live.new_lengths()) as usize;
+    fits(&[at + length_of(&string)], &[live.area.len()])?;
+    Ok(Some(Step { at, string }))
 }
 
 // ---------------------------------------------------------------- 6
