@@ -30,5 +30,5 @@ pub fn arrangement(
         return Err(Refusal::Kind);
     }
     let states = states_of(depth as usize, cells as usize, number)?;
-    put_arrangement(states, masks, values, offsets)
+    put_arrangement(&states, masks, values, offsets)
 }

@@ -12,9 +12,9 @@ use array::refusal::Refusal;
 use buffer::copy::fill_bytes;
 
 // The plane of a level, at the place `to`.
-fn put_plane(out: &mut [u8], to: usize, states: States, level: usize)
-    requires { to + states.cells ≤ length out.old }
-    ensures { out.new ≡ over_at to (map (mask_by states level) (from 0 states.cells)) out.old }
+fn put_plane(out: &mut [u8], to: usize, states: &States, level: usize)
+    requires { to + states.now.cells ≤ length out.old }
+    ensures { out.new ≡ over_at to (map (mask_by states.now level) (from 0 states.now.cells)) out.old }
 {
     for j in 0..states.cells {
         out[to + j] = (level < states.each[j] as usize) as u8;
@@ -22,9 +22,9 @@ fn put_plane(out: &mut [u8], to: usize, states: States, level: usize)
 }
 
 // All planes, outermost first.
-fn put_planes(out: &mut [u8], states: States)
-    requires { states.depth * states.cells ≤ length out.old }
-    ensures { out.new ≡ over (planes_by (mask_by states) states.depth 0 (from 0 states.cells)) out.old }
+fn put_planes(out: &mut [u8], states: &States)
+    requires { states.now.depth * states.now.cells ≤ length out.old }
+    ensures { out.new ≡ over (planes_by (mask_by states.now) states.now.depth 0 (from 0 states.now.cells)) out.old }
 {
     for level in 0..states.depth {
         put_plane(out, level * states.cells, states, level);
@@ -32,9 +32,9 @@ fn put_planes(out: &mut [u8], states: States)
 }
 
 // Where each value begins, and the last one ends.
-fn put_offsets(out: &mut [u64], states: States)
-    requires { states.cells + 1 ≤ length out.old }
-    ensures { out.new ≡ over (ends_of states) out.old }
+fn put_offsets(out: &mut [u64], states: &States)
+    requires { states.now.cells + 1 ≤ length out.old }
+    ensures { out.new ≡ over (ends_of states.now) out.old }
 {
     let mut to: u64 = 0;
     for j in 0..states.cells {
@@ -46,13 +46,13 @@ fn put_offsets(out: &mut [u64], states: States)
 
 // Refusal 6, or all is stored.
 pub fn put_arrangement(
-    states: States,
+    states: &States,
     masks: &mut [u8],
     values: &mut [u8],
     offsets: &mut [u64],
 ) -> Result<Lengths, Refusal>
     ensures { outcome_array result masks.new values.new offsets.new
-        ≡ put_into (stated states) (content_array masks.old values.old offsets.old) }
+        ≡ put_into (stated states.now) (content_array masks.old values.old offsets.old) }
 {
     let planes = states.depth * states.cells;
     let count = states.cells + 1;

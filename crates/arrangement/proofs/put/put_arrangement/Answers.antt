@@ -10,22 +10,22 @@ use Rattle.arrangement.proofs.put.put_arrangement.Goals as goal
 pub returns-then-masks-planes : goal.returns-then-masks-planes
 returns-then-masks-planes c =
     let a = c.args in
-    without_masks_lem (stated a.states) (content_array a.masks.now a.values.now a.offsets.now) _ (masks_long a.states) (omega (arith, c.if-masks-planes.true))
+    without_masks_lem (stated a.states.now) (content_array a.masks.now a.values.now a.offsets.now) _ (masks_long a.states.now) (omega (arith, c.if-masks-planes.true))
 
 pub returns-then-values-states : goal.returns-then-values-states
 returns-then-values-states c =
     let a = c.args in
-    no_values (stated a.states) (content_array a.masks.now a.values.now a.offsets.now) _ (values_long a.states) c.if-values-states.true
+    no_values (stated a.states.now) (content_array a.masks.now a.values.now a.offsets.now) _ (values_long a.states.now) c.if-values-states.true
 
 pub returns-then-offsets-count : goal.returns-then-offsets-count
 returns-then-offsets-count c =
     let a = c.args in
-    no_offsets (stated a.states) (content_array a.masks.now a.values.now a.offsets.now) _ (offsets_long a.states) c.if-offsets-count.true
+    no_offsets (stated a.states.now) (content_array a.masks.now a.values.now a.offsets.now) _ (offsets_long a.states.now) c.if-offsets-count.true
 
 pub returns : goal.returns
 returns c =
     let a = c.args in
-    let s = a.states in
+    let s = a.states.now in
     put (stated s) (content_array a.masks.now a.values.now a.offsets.now) _ _ _ (masks_long s) (values_long s) (offsets_long s)
     (omega (arith, c.if-masks-planes.false)) c.if-values-states.false c.if-offsets-count.false _ _ _
     (c.put_planes.ensures ∙ ap (λ (x : List ℕ). over x a.masks.now) (sym (masks_are s)))

@@ -10,7 +10,7 @@ loop-j-init c = ends_begin _ _ _ c.requires
 
 pub loop-j-preserved : goal.loop-j-preserved
 loop-j-preserved c =
-    let s = c.args.states in
+    let s = c.args.states.now in
     let state = s.digits.states c.loop-j.j c.loop-j-test.true in
     let size = c.saturating_sub-to.ensures ∙ ap (λ (i : ℕ). i - s.depth) state ∙ sym (length-replicate {A = ℕ} (state_at s.depth s.cells s.number c.loop-j.j - s.depth) 0) in
     ends_more c.loop-j.invariant c.loop-j-test.true size (omega (arith, c.saturating_sub-to.ensures, state, size_small s.depth s.cells s.number c.loop-j.j))

@@ -14,7 +14,7 @@ loop-j-init c = number_begins _ _ _ _ (omega (arith, c.requires))
 
 pub loop-j-preserved : goal.loop-j-preserved
 loop-j-preserved c =
-    let s = c.args.states in
+    let s = c.args.states.now in
     let state = s.digits.states c.loop-j.j c.loop-j-test.true in
     number_more c.loop-j.invariant c.loop-j-test.true (as_byte _ ∙ ap (λ (i : ℕ). pick (ltb c.args.level i) 1 0) state) refl
 
