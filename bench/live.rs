@@ -1,5 +1,5 @@
-//! Live tables: the plain loops that one would write for `migrate_step` and `migrate_extract`, for shapes of two sides, with the same checks in the same order and
-//! the same outcome. Buffers are used again, the places of all cells too.
+//! Live tables: the plain loops that one would write for `migrate_step` and `migrate_extract`, for shapes of two sides, with the same checks in the same
+//! order and the same outcome. Buffers are used again, the places of all cells too.
 
 use crate::rng::Rng;
 use crate::tables::{CELLS, Read};
