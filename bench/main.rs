@@ -1,7 +1,7 @@
 //! The archive's and the Rust's times, in one process: the two by turns, the best of many rounds each.
 //!
 //!   bench OBJECT [ROUNDS [FILE [ONLY]]]     FILE: every row with its times; ONLY: the rows of the interleaved form, generate, table, guest or
-//!                                           arrangement or long alone
+//!                                           arrangement, live or long alone
 //!
 //! Both get the same inputs, borrowed. The archive writes to lent outputs, reused from call to call. The Rust allocates: its results, and
 //! inside encode and decode a part of the array for each level, the index and the data; giving that memory back is in its time. Where it
@@ -10,7 +10,8 @@
 //! which does less than the listed one.
 //! Packed masks, which the Rust does not have, are timed against masks of bytes, both ours. encode_interleaved and generate, which it does not have either,
 //! are timed against a plain Rust loop with reused buffers (bounds.rs), the former by the same C signature and into the same memory, and also against that
-//! loop behind the same checks; working tables, guests' calls and arrangements against loops with the same checks (tables.rs, guests.rs, arrangements.rs).
+//! loop behind the same checks; working tables, guests' calls, arrangements and live tables against loops with the same checks (tables.rs, guests.rs,
+//! arrangements.rs, live.rs).
 
 #[path = "../oracle/driver/archive.rs"]
 #[allow(dead_code)]
@@ -19,6 +20,7 @@ mod arrangements;
 mod bounds;
 mod guests;
 mod inputs;
+mod live;
 mod long;
 #[path = "../oracle/driver/rng.rs"]
 #[allow(dead_code)]
@@ -75,6 +77,7 @@ const LOAD: &str = "generate";
 const TABLE: [&str; 5] = ["table_make", "table_read", "table_set", "table_pack", "table_preview"];
 const GUEST: [&str; 2] = ["guest_read", "guest_edit"];
 const ARRANGED: &str = "arrangement";
+const LIVE: [&str; 2] = ["migrate_step", "migrate_extract"];
 const START: u32 = 7;
 impl Call<'_> {
     fn name(&self) -> &'static str {
@@ -254,6 +257,8 @@ struct Bench {
     guests: Vec<Row>,
     /// Arrangements beside a plain loop.
     arranged: Vec<Row>,
+    /// The calls on live tables beside plain loops.
+    live: Vec<Row>,
 }
 
 fn keep<T>(result: T) {
@@ -263,8 +268,8 @@ fn keep<T>(result: T) {
 impl Bench {
     fn new(archive: Archive, rounds: u32) -> Bench {
         let (rows, packed, older, checked) = (vec![], vec![], vec![], vec![]);
-        let (loads, tables, guests, arranged) = ([vec![], vec![]], vec![], vec![], vec![]);
-        Bench { archive, rounds, rows, packed, older, checked, loads, tables, guests, arranged }
+        let (loads, tables, guests, arranged, live) = ([vec![], vec![]], vec![], vec![], vec![], vec![]);
+        Bench { archive, rounds, rows, packed, older, checked, loads, tables, guests, arranged, live }
     }
 
     fn ours<'a>(&self, call: Call<'a>) -> Timed<'a> {
@@ -1073,6 +1078,93 @@ fn arranged_rows(b: &mut Bench) {
     b.arranged.push(Row { call: ARRANGED, below: true, kind, what, column, other, ours, held: None });
 }
 
+fn our_step(a: &Archive, t: &mut live::Live) -> [u64; 2] {
+    let mut named = [0; 2];
+    #[rustfmt::skip]
+    let answer = unsafe {
+        (a.migrate_step)(
+            t.shape.as_ptr(), 2, t.subsets.as_ptr(), t.subsets.len(), t.old_lengths.as_ptr(), t.old_lengths.len(), t.old.as_ptr(), t.old.len(),
+            t.moved, t.moved_lengths.as_mut_ptr(), t.moved_lengths.len(), t.area.as_mut_ptr(), t.area.len(), named.as_mut_ptr(),
+        )
+    };
+    assert_eq!(answer, 0);
+    named
+}
+fn our_cut(a: &Archive, t: &live::Live, subset: &[u64], l: &mut Lent) {
+    #[rustfmt::skip]
+    let answer = unsafe {
+        (a.migrate_extract)(
+            t.shape.as_ptr(), 2, t.subsets.as_ptr(), t.subsets.len(), subset.as_ptr(), subset.len(), t.old_lengths.as_ptr(), t.old_lengths.len(),
+            t.old.as_ptr(), t.old.len(), t.moved, t.moved_lengths.as_ptr(), t.moved_lengths.len(), t.area.as_ptr(), t.area.len(),
+            l.values.as_mut_ptr(), l.values.len(), l.offsets.as_mut_ptr(), l.offsets.len(), l.lengths.as_mut_ptr(),
+        )
+    };
+    assert_eq!(answer, 0);
+    black_box(l);
+}
+
+/// 65,536 cells in 1, 16, 256 and 65,536 chunks: a step with none moved and with half of them, and cuts before, between and behind the steps.
+fn live_rows(b: &mut Bench) {
+    let a = b.archive;
+    for side in [256, 64, 16, 1] {
+        let mut t = live::table(side);
+        let chunks = t.old_lengths.len() as u64;
+        let column = chunks.to_string();
+        let mut stages = vec![(0, "none moved"), (chunks / 2, "half moved"), (chunks, "all moved")];
+        stages.retain(|&(moved, what)| chunks > 1 || moved != 0 || what == "none moved");
+        for (moved, when) in stages {
+            while t.moved < moved {
+                // unchecked: what the calls would read again at each step
+                t = live::moved(t);
+            }
+            if moved < chunks {
+                let (mut mine, mut plain) = (t.clone(), t.clone());
+                let named = our_step(&a, &mut mine);
+                assert_eq!(Ok(named), live::step(&mut plain, &mut live::Work::default()));
+                assert!(mine.area == plain.area && mine.moved_lengths == plain.moved_lengths, "not the same: {}", LIVE[0]);
+                let mut work = live::Work::default();
+                let other = timed(|| {
+                    keep(live::step(black_box(&mut plain), &mut work));
+                });
+                let mine = || {
+                    let mut t = t.clone();
+                    timed(move || keep(our_step(&a, black_box(&mut t))))
+                };
+                let [ours, other] = b.turns_of(mine, other, 1.0, 2.0);
+                let (kind, what, column) = (String::new(), when.to_string(), column.clone());
+                b.live.push(Row { call: LIVE[0], below: true, kind, what, column, other, ours, held: None });
+            }
+            for (subset, part) in
+                [([0, 0, 256, 256], "all cells"), ([64, 64, 128, 128], "a quarter"), ([100, 100, 1, 1], "one cell")]
+            {
+                let room = || tables::Read { masks: vec![], values: vec![0; 16 * 65_536], offsets: vec![0; 65_537] };
+                let (mut reused, mut work, mut lent) = (room(), live::Work::default(), Lent::new());
+                let [values, offsets] = live::cut(&t, &subset, &mut work, &mut reused).unwrap();
+                our_cut(&a, &t, &subset, &mut lent);
+                let same =
+                    (&lent.values[..values], &lent.offsets[..offsets], [lent.lengths[0] as usize, lent.lengths[1] as usize]);
+                assert!(
+                    same == (&reused.values[..values], &reused.offsets[..offsets], [values, offsets]),
+                    "not the same: {}",
+                    LIVE[1]
+                );
+                let other = timed(|| {
+                    keep(live::cut(black_box(&t), &subset, &mut work, &mut reused));
+                    black_box(&mut reused);
+                });
+                let mine = || {
+                    let mut lent = Lent::new();
+                    let t = &t;
+                    timed(move || our_cut(&a, black_box(t), &subset, &mut lent))
+                };
+                let [ours, other] = b.turns_of(mine, other, 1.0, 2.0);
+                let (kind, what, column) = (part.to_string(), when.to_string(), column.clone());
+                b.live.push(Row { call: LIVE[1], below: true, kind, what, column, other, ours, held: None });
+            }
+        }
+    }
+}
+
 fn quarter(shape: &[u64]) -> [u64; 4] {
     [shape[0] / 4, shape[1] / 4, shape[0] / 2, shape[1] / 2]
 }
@@ -1448,6 +1540,16 @@ fn arranged_tables(b: &mut Bench) {
     table(&b.arranged.iter().collect::<Vec<_>>());
 }
 
+fn live_tables(b: &mut Bench) {
+    live_rows(b);
+    for call in LIVE {
+        println!(
+            "\n`{call}`, by chunks. Ratio: the time of a plain Rust loop with reused buffers and the same checks over ours.\n"
+        );
+        table(&b.live.iter().filter(|row| row.call == call).collect::<Vec<_>>());
+    }
+}
+
 fn main() {
     let args: Vec<String> = std::env::args().skip(1).collect();
     let archive = Archive::load(&args[0]).unwrap();
@@ -1479,6 +1581,13 @@ fn main() {
         println!();
         return tables_said(&b.arranged, &[ARRANGED]);
     }
+    if only == "live" {
+        live_tables(&mut b);
+        println!("\n| call | of | with | chunks | loop, ns | ours, ns | ratio |\n|---|---|---|---|---|---|---|");
+        b.live.iter().for_each(|row| println!("{}", whole(row)));
+        println!();
+        return tables_said(&b.live, &LIVE);
+    }
     if only == "interleaved" {
         interleaved_rows(&mut b);
         ratios(&b.rows);
@@ -1499,6 +1608,7 @@ fn main() {
     table_tables(&mut b);
     guest_tables(&mut b);
     arranged_tables(&mut b);
+    live_tables(&mut b);
     let copies = copies(&mut b);
     growth(&mut b);
 
@@ -1528,6 +1638,7 @@ fn main() {
     tables_said(&b.tables, &TABLE);
     tables_said(&b.guests, &GUEST);
     tables_said(&b.arranged, &[ARRANGED]);
+    tables_said(&b.live, &LIVE);
     println!("large plain copies at 0.7 of memcpy or more: {} (least {:.2})", said(least(&copies) >= 0.7), least(&copies));
     if let Some(file) = args.get(2) {
         let lines: Vec<String> = b
@@ -1541,6 +1652,7 @@ fn main() {
             .chain(b.tables.iter().map(whole))
             .chain(b.guests.iter().map(whole))
             .chain(b.arranged.iter().map(whole))
+            .chain(b.live.iter().map(whole))
             .collect();
         std::fs::write(file, lines.join("\n") + "\n").unwrap();
     }

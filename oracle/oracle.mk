@@ -95,7 +95,7 @@ $(O)/bench: $(wildcard bench/*.rs) oracle/driver/archive.rs oracle/driver/rng.rs
 
 # ROUNDS  of which the best counts; where it is 1 no row is tried again. Every row with its times goes to build/oracle/bench.txt.
 # ONLY    interleaved: the rows of the interleaved form alone; generate: those of loads; table: those of working tables; guest: those of guests;
-#         arrangement: those of arrangements; long: one cell of 4 GiB, which the other rows leave out.
+#         arrangement: those of arrangements; live: those of live tables; long: one cell of 4 GiB, which the other rows leave out.
 ROUNDS ?= 25
 .PHONY: bench
 bench: $(O)/bench $(OBJECT)

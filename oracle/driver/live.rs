@@ -440,6 +440,9 @@ impl Compare {
                 break;
             }
             entered += 1;
+            if entered > chunks as u64 {
+                return Err((CUTS, format!("more steps than {chunks} chunks")));
+            }
             t = LiveTable { moved: r.second, moved_lengths: r.lengths, area: r.values, ..t };
         }
         if live.moved + entered != chunks as u64 || t.moved != chunks as u64 {

@@ -83,6 +83,19 @@ static void arrangements(void)
     CHECK(strstr(dpx_refusal_text(DPX_ARRANGEMENT), "refusal 19: ") != NULL);
 }
 
+/* Once moved a chunk takes what dpx_encode writes of its cells: of old strings with nothing behind their cells just that. */
+static void areas(void)
+{
+    const dpx_kind moved = dpx_ragged(0, 8, DPX_START);
+    uint64_t cells, bytes;
+    for (cells = 1; cells < 20; cells++)
+        for (bytes = 0; bytes < 20; bytes++)
+            CHECK(dpx_area_room(1, cells, 4 + 4 * cells + bytes) == dpx_stored_room(moved, cells, bytes));
+    CHECK(dpx_area_room(3, 5, 3 * 4 + 4 * 5 + 7) == 3 * 16 + 8 * 5 + 7);
+    CHECK(dpx_area_room(0, 0, 0) == 0 && dpx_area_room(2, 1, 9) == 0);
+    CHECK(dpx_area_room(DPX_MAX_CELLS, DPX_MAX_CELLS, 0) == 16 * DPX_MAX_CELLS && dpx_area_room(1, DPX_MAX_CELLS + 1, 9) == 0);
+}
+
 /* A byte or a bit a cell. All else of a packed kind stays. */
 static void mask_forms(void)
 {
@@ -294,6 +307,7 @@ int main(void)
     texts();
     counts();
     arrangements();
+    areas();
     mask_forms();
     marks();
     for (depth = 0; depth <= DPX_MAX_DEPTH; depth++) {

@@ -42,7 +42,7 @@ g++ -o "$out/inline-cpp" "$out/inline.o" "$lib"
 "$out/inline-cpp"
 
 echo "plain"
-for test in test table guests arrangements; do
+for test in test table guests arrangements live; do
     gcc -std=c11 -O2 "${warnings[@]}" -o "$out/$test" "tests/c/$test.c" "$lib"
     "$out/$test"
 done
@@ -57,13 +57,13 @@ gcc -std=c11 -O2 "${warnings[@]}" -o "$out/stack" tests/c/stack.c "$lib"
 "$out/stack"
 
 echo "valgrind"
-for test in test table guests arrangements inline; do
+for test in test table guests arrangements live inline; do
     gcc -std=c11 -O1 -g "${warnings[@]}" -o "$out/$test-valgrind" "tests/c/$test.c" "$lib"
     valgrind --quiet --error-exitcode=1 --leak-check=full --track-origins=yes "$out/$test-valgrind"
 done
 
 echo "address and undefined behaviour sanitizers"
-for test in test table guests arrangements inline; do
+for test in test table guests arrangements live inline; do
     gcc -std=c11 -O1 -g "${warnings[@]}" -fsanitize=address,undefined -fno-sanitize-recover=all -o "$out/$test-sanitized" \
         "tests/c/$test.c" "$lib"
     "$out/$test-sanitized"

@@ -213,6 +213,51 @@ static void pack_small(void) { table_pack(SMALL_TABLE); }
 
 static void pack_large(void) { table_pack(DPX_MAX_CELLS); }
 
+/* A live table with a chunk for each cell, half of them moved; a chunk that is all of it; and cuts of either. */
+static uint8_t l_old[9 * CELLS], l_area[25 * CELLS], l_whole[9 * CELLS + 16];
+static uint64_t l_lengths[CELLS], l_moved[CELLS];
+
+static void make_live(void)
+{
+    size_t i;
+    memset(l_old, 0, sizeof l_old);
+    memset(l_area, 0, sizeof l_area);
+    for (i = 0; i < CELLS; i++) {
+        l_lengths[i] = 9;
+        l_moved[i] = 25;
+        l_old[9 * i] = l_old[9 * i + 4] = 1;
+        l_area[25 * i] = 16;
+        l_area[25 * i + 16] = 1;
+    }
+}
+
+static void migrate_step(void)
+{
+    make_live();
+    answer = dpx_migrate_step(shape, 1, subsets, 2 * CELLS, l_lengths, CELLS, l_old, sizeof l_old, CELLS / 2, l_moved, CELLS, l_area,
+                              sizeof l_area, lengths);
+}
+
+static void migrate_step_whole(void)
+{
+    uint64_t moved[1] = {0};
+    answer = dpx_migrate_step(shape, 1, whole, 2, &old_len, 1, old, old_len, 0, moved, 1, l_whole, sizeof l_whole, lengths);
+}
+
+static void migrate_extract(void)
+{
+    make_live();
+    answer = dpx_migrate_extract(shape, 1, subsets, 2 * CELLS, whole, 2, l_lengths, CELLS, l_old, sizeof l_old, CELLS / 2, l_moved, CELLS,
+                                 l_area, sizeof l_area, out_values, CELLS, out_offsets, CELLS + 1, lengths);
+}
+
+static void migrate_extract_whole(void)
+{
+    const uint64_t moved[1] = {0};
+    answer = dpx_migrate_extract(shape, 1, whole, 2, whole, 2, &old_len, 1, old, old_len, 0, moved, 1, NULL, 0, out_values, CELLS,
+                                 out_offsets, CELLS + 1, lengths);
+}
+
 static void nothing(void) { answer = 0; }
 
 static ucontext_t here, there;
@@ -273,7 +318,11 @@ int main(void)
                  {"guest_read, fixed", guest_read_fixed, 0},
                  {"guest_edit", edit_small, 0},
                  {"guest_edit, large", edit_large, LARGE},
-                 {"guest_edit, hidden", edit_hidden, LARGE}};
+                 {"guest_edit, hidden", edit_hidden, LARGE},
+                 {"migrate_step", migrate_step, 0},
+                 {"migrate_step, whole", migrate_step_whole, 0},
+                 {"migrate_extract", migrate_extract, 0},
+                 {"migrate_extract, whole", migrate_extract_whole, 0}};
     size_t i, idle, failed = 0;
 
     for (i = 0; i < CELLS; i++) {
@@ -297,7 +346,7 @@ int main(void)
     for (i = 0; i < sizeof calls / sizeof calls[0]; i++) {
         const size_t size = used(calls[i].call) - idle, promised = calls[i].promised != 0 ? calls[i].promised : PROMISED;
         const int fine = answer == 0 && size <= promised;
-        printf("stack of %-21s %6zu bytes%s\n", calls[i].name, size, fine ? "" : "  FAILED");
+        printf("stack of %-22s %6zu bytes%s\n", calls[i].name, size, fine ? "" : "  FAILED");
         if (!fine) {
             printf("  answer %" PRIu32 "; at most %zu bytes are promised\n", answer, promised);
             failed++;
