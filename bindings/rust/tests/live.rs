@@ -288,7 +288,7 @@ fn moved_at_random() {
                     refused += 1;
                     let used: u64 = table.moved_lengths[..table.moved as usize].iter().sum();
                     table.area.truncate(used as usize);
-                    table.area.extend(vec![0xDD; draws.below(200) as usize]);
+                    table.area.extend(vec![0xDD; draws.below(2000) as usize]);
                 }
             }
         }
