@@ -186,7 +186,7 @@ fn what_is_refused() {
         (
             vec!["show", "--rights", "1,0,2,0", "guests.bin"],
             4,
-            "Caused by whoever hands over the array, chunk list, working table or rights plane.\n",
+            "Caused by whoever hands over the array, chunk list, working table, live table or rights plane.\n",
         ),
         (with(edit(FIRST, "2,0"), &["work.txt", "no"]), 15, "The table is 2x2; cell 2,0 is none of it"),
         (with(edit("0,1,1,1", "0,0"), &["work.txt", "no"]), 18, "--rights has 0 for cell 0,0.\n"),

@@ -109,7 +109,7 @@ fn a_typed_byte() {
         assert!(said.err.starts_with("durpaxeta: standard input, line 4: refusal 4: "), "{}", said.err);
         assert!(said.err.contains(told), "{}", said.err);
         assert!(
-            said.err.contains("Caused by whoever hands over the array, chunk list, working table or rights plane."),
+            said.err.contains("Caused by whoever hands over the array, chunk list, working table, live table or rights plane."),
             "{}",
             said.err
         );

@@ -1,7 +1,7 @@
 //! The archive's functions over slices. The only unsafe code of this crate.
 #![allow(unsafe_code)]
 
-use crate::{Kind, Lent, MaskForm, Order, Place, Room, TableMut, TableRef, Values, Width};
+use crate::{Kind, Lent, LiveTable, LiveTableRef, MaskForm, Order, Place, Room, TableMut, TableRef, Values, Width};
 
 /// `dpx_kind` of durpaxeta.h.
 #[repr(C)]
@@ -337,6 +337,46 @@ extern "C" {
         cell_masks_len: usize,
         value: *const u8,
         value_len: usize,
+    ) -> u32;
+
+    fn dpx_migrate_step(
+        shape: *const u64,
+        shape_len: usize,
+        subsets: *const u64,
+        subsets_len: usize,
+        old_lengths: *const u64,
+        old_lengths_len: usize,
+        old: *const u8,
+        old_len: usize,
+        moved: u64,
+        moved_lengths: *mut u64,
+        moved_lengths_len: usize,
+        area: *mut u8,
+        area_len: usize,
+        lengths: *mut u64,
+    ) -> u32;
+
+    fn dpx_migrate_extract(
+        shape: *const u64,
+        shape_len: usize,
+        subsets: *const u64,
+        subsets_len: usize,
+        subset: *const u64,
+        subset_len: usize,
+        old_lengths: *const u64,
+        old_lengths_len: usize,
+        old: *const u8,
+        old_len: usize,
+        moved: u64,
+        moved_lengths: *const u64,
+        moved_lengths_len: usize,
+        area: *const u8,
+        area_len: usize,
+        out_values: *mut u8,
+        out_values_len: usize,
+        out_offsets: *mut u64,
+        out_offsets_len: usize,
+        lengths: *mut u64,
     ) -> u32;
 }
 
@@ -712,4 +752,58 @@ pub fn guest_read(kind: Kind, shape: &[u64], rights: &[u8], content: Content<'_>
 
 pub fn guest_edit(table: &mut TableMut<'_>, rights: &[u8], cell: u64, cell_masks: &[u8], value: &[u8]) -> Answer<()> {
     set_cell!(dpx_guest_edit, table, [rights], cell, cell_masks, value)
+}
+
+/// Gives the bytes entered, 0 where no chunk is left, and how many chunks are moved.
+pub fn migrate_step(table: &mut LiveTable<'_>) -> Answer<[u64; 2]> {
+    let mut lengths = [0; 2];
+    answer(unsafe {
+        dpx_migrate_step(
+            table.shape.as_ptr(),
+            table.shape.len(),
+            table.subsets.as_ptr(),
+            table.subsets.len(),
+            table.old_lengths.as_ptr(),
+            table.old_lengths.len(),
+            table.old.as_ptr(),
+            table.old.len(),
+            table.moved,
+            table.moved_lengths.as_mut_ptr(),
+            table.moved_lengths.len(),
+            table.area.as_mut_ptr(),
+            table.area.len(),
+            lengths.as_mut_ptr(),
+        )
+    })?;
+    Ok(lengths)
+}
+
+pub fn migrate_extract(table: LiveTableRef<'_>, subset: &[u64], out: &mut Lent<'_>) -> Answer<Room> {
+    let mut lengths = [0; 2];
+    let number = unsafe {
+        dpx_migrate_extract(
+            table.shape.as_ptr(),
+            table.shape.len(),
+            table.subsets.as_ptr(),
+            table.subsets.len(),
+            subset.as_ptr(),
+            subset.len(),
+            table.old_lengths.as_ptr(),
+            table.old_lengths.len(),
+            table.old.as_ptr(),
+            table.old.len(),
+            table.moved,
+            table.moved_lengths.as_ptr(),
+            table.moved_lengths.len(),
+            table.area.as_ptr(),
+            table.area.len(),
+            out.values.as_mut_ptr(),
+            out.values.len(),
+            out.offsets.as_mut_ptr(),
+            out.offsets.len(),
+            lengths.as_mut_ptr(),
+        )
+    };
+    answer(number)?;
+    Ok(room(0, lengths[0], lengths[1]))
 }

@@ -8,6 +8,7 @@
 //! A [`Table`] is one whose cells are edited in memory; [`table_make_into`], [`table_read_into`] and [`TableMut`] do that in lent slices.
 //! [`Rights`] are the cells that a guest may see; [`guest_read`] and [`Table::guest_edit`] show and set no other.
 //! [`arrangements`] are all tables of a few cells, an acceptance set for those who show tables; [`arrangement`] is one by its number.
+//! A [`LiveTable`] leaves the older, interleaved form chunk by chunk, while it is in use; [`LiveTable::step`] moves the next chunk.
 //! The crate needs `core` and `alloc` only.
 //!
 //! Masks come before values, and values before offsets, everywhere.
@@ -37,6 +38,7 @@ mod calls;
 mod ffi;
 mod kind;
 mod lent;
+mod live;
 mod refusal;
 mod rights;
 mod sizes;
@@ -52,6 +54,7 @@ pub use calls::{
 };
 pub use kind::{Kind, MaskForm, Order, Place, Values, Width};
 pub use lent::{cell_count, Lent, Room};
+pub use live::{LiveTable, LiveTableRef, Step};
 pub use refusal::{Blame, Refusal, UnknownRefusal};
 pub use rights::{guest_read, guest_read_into, Rights};
 pub use subset::Subset;

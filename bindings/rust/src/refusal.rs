@@ -23,7 +23,7 @@ macro_rules! refusals {
             /// Its meaning in plain words.
             ///
             /// ```
-            /// assert_eq!(durpaxeta::Refusal::Output.message(), "an output is shorter than the result needs");
+            /// assert!(durpaxeta::Refusal::Short.message().starts_with("too few stored bytes: "));
             /// ```
             pub fn message(self) -> &'static str {
                 match self {
@@ -54,13 +54,15 @@ refusals! {
         "the shape is out of range: 1 to 4 sides, each at least 1, at most 65,536 cells in all (of a working table: 1 to \
          65,536 cells)";
     Subset = 3, Describer,
-        "a subset reaches past the shape, or has not one start and one length for each side, or, in a merge, holds no cell";
+        "a subset reaches past the shape, or has not one start and one length for each side, or, in a merge or as a chunk of a \
+         live table, holds no cell";
     Content = 4, Supplier,
         "lengths of masks, values, offsets or chunks disagree, a mask byte is neither 00 nor 01, the first offset is not 0, or \
-         offsets fall (of a working table: it is not in rest form, or cells overlap or lie where they must not; of a rights \
-         plane: it has not one byte for each cell, or one is neither 00 nor 01)";
+         offsets fall (of a working table: it is not in rest form, or cells overlap or lie where they must not; of a live \
+         table: a list has not one length for each chunk, lengths do not sum to the old bytes or sum past the area, or more \
+         chunks are moved than there are; of a rights plane: it has not one byte for each cell, or one is neither 00 nor 01)";
     Size = 5, Supplier, "more than 8,589,934,592 value bytes, or 16,777,216 bytes of a store";
-    Output = 6, Lender, "an output is shorter than the result needs";
+    Output = 6, Lender, "an output, or the area of a live table, is shorter than the result needs";
     Short = 7, Storer,
         "too few stored bytes: a frame takes at least 16, ragged values 8, the interleaved form 4 and 4 for each cell";
     Length = 8, Storer,
@@ -69,7 +71,7 @@ refusals! {
     Count = 9, Storer, "the interleaved form counts another number of cells";
     Falling = 10, Storer, "the first stored offset is not 0, or stored offsets fall";
     PastEnd = 11, Storer, "interleaved form: a length field or a cell runs past the end";
-    Cover = 12, Supplier, "the subsets of the merge miss a cell or hold one twice";
+    Cover = 12, Supplier, "the subsets of the merge, or of the live table, miss a cell or hold one twice";
     UnusedBits = 13, Storer, "a packed mask has a bit after its last cell that is not 0";
     NotBoolean = 14, Storer, "a stored mask byte is neither 00 nor 01";
     Cell = 15, Setter, "the working table has no cell of that number";
@@ -87,7 +89,7 @@ refusals! {
 pub enum Blame {
     /// Whoever describes the table: its kind, its shape, a subset.
     Describer,
-    /// Whoever hands over the array, the chunk list, the working table or the rights plane.
+    /// Whoever hands over the array, the chunk list, the working table, the live table or the rights plane.
     Supplier,
     /// Whoever sets a cell of a working table.
     Setter,
@@ -145,7 +147,7 @@ impl fmt::Display for Blame {
     fn fmt(&self, f: &mut fmt::Formatter<'_>) -> fmt::Result {
         f.write_str(match self {
             Blame::Describer => "whoever describes the table",
-            Blame::Supplier => "whoever hands over the array, chunk list, working table or rights plane",
+            Blame::Supplier => "whoever hands over the array, chunk list, working table, live table or rights plane",
             Blame::Setter => "whoever sets the cell",
             Blame::Numberer => "whoever numbers the arrangement",
             Blame::Storer => "whoever stored the bytes",
