@@ -372,3 +372,60 @@ fn planes_combine_as_the_page_says() {
     assert_eq!(merged(&planes).and_then(Rights::from_array), Ok(guest));
     assert_eq!(merged(&parts), Ok(seen));
 }
+
+/// Part 18: the old bytes, the area after each step, and what the page says of them.
+#[test]
+fn live_tables_are_real() {
+    let page = part("18");
+    let has = |text: &str| assert!(page.contains(text), "{text}");
+    let one = |cell: &[u8]| {
+        let array = Array::from_cells(LiveTable::KIND, &[1], &[Cell::Value(cell)]).unwrap();
+        encode_interleaved(&array).unwrap()
+    };
+    let old = [one(b"A"), one(b"BC"), vec![0xFF]].concat();
+    assert_eq!(pictures(page, "old"), [old.clone()]);
+    let (mut moved_lengths, mut area) = ([7, 7], [0xEE; 52]);
+    let mut table = LiveTable {
+        shape: &[2],
+        subsets: &[1, 1, 0, 1],
+        old_lengths: &[9, 11],
+        old: &old,
+        moved: 0,
+        moved_lengths: &mut moved_lengths,
+        area: &mut area,
+    };
+    has(&format!("stored as `{}`", LiveTable::KIND));
+    let mut areas = Vec::new();
+    let mut lengths = Vec::new();
+    loop {
+        let cut = table.extract(Width::Eight, Place::Start, &Subset::whole(&[2])).unwrap();
+        assert_eq!((&cut.values[..], &cut.offsets[..]), (&b"BCA"[..], &[0, 2, 3][..]));
+        let Step::Moved { bytes, moved } = table.step().unwrap() else { break };
+        has(&format!("{bytes} bytes and {moved} chunk"));
+        areas.push(table.area.to_vec());
+        lengths.push(table.moved_lengths.to_vec());
+    }
+    assert_eq!(page.matches(", offsets 0, 2, 3").count(), 3);
+    assert_eq!(pictures(page, "area"), areas);
+    assert_eq!(lengths, [[25, 7], [25, 26]]);
+    has("The moved lengths are 25 and 7.");
+    has("the moved lengths are 25 and 26.");
+
+    // With an area of 50 bytes, of 51, and with old lengths 8 and 12.
+    let (mut moved_lengths, mut short) = ([25, 7], areas[0][..50].to_vec());
+    let mut table = LiveTable {
+        shape: &[2],
+        subsets: &[1, 1, 0, 1],
+        old_lengths: &[9, 11],
+        old: &old,
+        moved: 1,
+        moved_lengths: &mut moved_lengths,
+        area: &mut short,
+    };
+    assert_eq!(table.step(), Err(Refusal::Output));
+    let mut longer = areas[0][..51].to_vec();
+    table.area = &mut longer;
+    assert_eq!(table.step(), Ok(Step::Moved { bytes: 26, moved: 2 }));
+    (table.moved, table.old_lengths) = (0, &[8, 12]);
+    assert_eq!(table.step(), Err(Refusal::PastEnd));
+}
