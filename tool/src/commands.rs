@@ -11,7 +11,7 @@ use crate::stored::{
     cells, given_kind, given_shape, missing_kind, missing_shape, stopped, undescribed, Given, Interleaved, Stored,
 };
 use crate::watch::Watch;
-use crate::{arrangements, explain, guests, help, json, literal, memory, tables, words, worksheet};
+use crate::{arrangements, explain, guests, help, json, literal, memory, migrate, tables, words, worksheet};
 use durpaxeta::{
     decode, encode, encode_interleaved, extract, generate, merge, partial_decode, subset_cells, Array, ArrayRef, Cell,
     Chunk, Kind, Refusal, Subset, Values,
@@ -27,7 +27,7 @@ struct Command {
     run: fn(&Arguments, &Watch) -> Result<u8, Failure>,
 }
 
-const COMMANDS: [Command; 19] = [
+const COMMANDS: [Command; 24] = [
     Command {
         name: "show",
         help: help::SHOW,
@@ -141,6 +141,23 @@ const COMMANDS: [Command; 19] = [
         options: &["--rights", "--rights-file", "--cell", "--to", "--no-clobber"],
         files: &["TABLE", "OUT"],
         run: guests::edit,
+    },
+    Command {
+        name: "migrate begin",
+        help: help::MIGRATE,
+        options: &["--shape", "--part"],
+        files: &["FOLDER"],
+        run: migrate::begin,
+    },
+    Command { name: "migrate step", help: help::MIGRATE, options: &[], files: &["FOLDER"], run: migrate::step },
+    Command { name: "migrate run", help: help::MIGRATE, options: &[], files: &["FOLDER"], run: migrate::run },
+    Command { name: "migrate show", help: help::MIGRATE, options: &[], files: &["FOLDER"], run: migrate::show },
+    Command {
+        name: "migrate cut",
+        help: help::MIGRATE,
+        options: &["--kind", "--subset", "--describe", "--no-clobber"],
+        files: &["FOLDER", "OUT"],
+        run: migrate::cut,
     },
     Command { name: "example", help: help::EXAMPLE_HELP, options: &[], files: &[], run: example },
 ];
@@ -324,17 +341,26 @@ fn write(arguments: &Arguments, watch: &Watch) -> Result<u8, Failure> {
     Ok(0)
 }
 
-fn cut(arguments: &Arguments, watch: &Watch) -> Result<u8, Failure> {
-    let text = arguments
-        .subset
-        .as_ref()
-        .ok_or_else(|| Failure::usage("--subset is missing; for example --subset 0..2,1..3"))?;
-    let stored = Stored::named(arguments, false, watch)?;
-    let (subset, count) = words::subset_of(text, &stored.shape, "--subset")?;
-    if count == 0 {
-        let detail = format!("The subset {text} holds no cell, and there is no table of no cells");
-        return Err(Failure::refused(Refusal::Shape, "--subset", detail));
+/// The subset that a command is to cut.
+pub fn asked_subset(arguments: &Arguments) -> Result<&str, Failure> {
+    arguments.subset.as_deref().ok_or_else(|| Failure::usage("--subset is missing; for example --subset 0..2,1..3"))
+}
+
+/// Reads a subset that is cut, and stored as a table.
+pub fn some_cells(text: &str, shape: &[u64]) -> Result<Subset, Failure> {
+    match words::subset_of(text, shape, "--subset")? {
+        (_, 0) => {
+            let detail = format!("The subset {text} holds no cell, and there is no table of no cells");
+            Err(Failure::refused(Refusal::Shape, "--subset", detail))
+        }
+        (subset, _) => Ok(subset),
     }
+}
+
+fn cut(arguments: &Arguments, watch: &Watch) -> Result<u8, Failure> {
+    let text = asked_subset(arguments)?;
+    let stored = Stored::named(arguments, false, watch)?;
+    let subset = some_cells(text, &stored.shape)?;
     let name = &stored.input.name;
     let cut = match (stored.kind.depth, stored.kind.values) {
         (0, Values::Ragged { width, place }) => {
@@ -415,15 +441,20 @@ fn merge_parts(arguments: &Arguments, watch: &Watch) -> Result<u8, Failure> {
     let whole = merge(kind, &shape, &chunks).map_err(|refusal| Failure::Refused {
         refusal,
         subject: "merge".into(),
-        detail: if refusal == Refusal::Cover { uncovered(&shape, &parts) } else { None },
+        detail: if refusal == Refusal::Cover { uncovered(&shape, &held(&parts)) } else { None },
     })?;
     let inputs: Vec<&Input> = parts.iter().flat_map(|part| part.stored.inputs()).collect();
     store(&whole, None, "merge", &out[0], &inputs, arguments, watch)?;
     Ok(0)
 }
 
+/// The subset and the file of each part.
+fn held(parts: &[Merged]) -> Vec<(&Subset, &str)> {
+    parts.iter().map(|part| (&part.subset, part.stored.input.name.as_str())).collect()
+}
+
 /// Reads the subset of a part.
-fn subset_with_cells(text: &str, shape: &[u64]) -> Result<Subset, Failure> {
+pub fn subset_with_cells(text: &str, shape: &[u64]) -> Result<Subset, Failure> {
     match words::subset_of(text, shape, "--part")? {
         (_, 0) => Err(Failure::refused(Refusal::Subset, "--part", format!("The subset {text} holds no cell"))),
         (subset, _) => Ok(subset),
@@ -459,20 +490,15 @@ fn no_part(path: &OsStr, description: Option<&str>) -> Failure {
 }
 
 /// The first cell that no part holds, or that two hold.
-fn uncovered(shape: &[u64], parts: &[Merged]) -> Option<String> {
+pub fn uncovered(shape: &[u64], parts: &[(&Subset, &str)]) -> Option<String> {
     let mut holders: Vec<Option<usize>> = vec![None; cells(shape)];
-    for (number, part) in parts.iter().enumerate() {
-        for cell in subset_cells(shape, &part.subset).ok()? {
+    for (number, two) in parts.iter().enumerate() {
+        for cell in subset_cells(shape, two.0).ok()? {
             let cell = cell as usize;
             if let Some(first) = holders[cell].replace(number) {
                 let name = words::coordinates(shape, cell);
-                let (one, two) = (&parts[first], part);
-                let (subsets, files) = ([&one.subset, &two.subset], [&one.stored.input.name, &two.stored.input.name]);
-                let [one, two] = subsets.map(words::subset_text);
-                return Some(format!(
-                    "Cell {name} is held twice, by {one} and by {two}, in {} and in {}",
-                    files[0], files[1]
-                ));
+                let ((one, its), (two, other)) = (parts[first], two);
+                return Some(format!("Cell {name} is held twice, by {one} and by {two}, in {its} and in {other}"));
             }
         }
     }
@@ -510,7 +536,7 @@ fn after_last_cell(input: &Input, walk: &Walk) -> Option<String> {
 }
 
 /// The older form has no masks, and cells of any length.
-fn has_older_form(kind: Kind) -> bool {
+pub fn has_older_form(kind: Kind) -> bool {
     kind.depth == 0 && kind.is_ragged()
 }
 

@@ -16,6 +16,7 @@ pub const GENERAL: &str = r#"durpaxeta: stored tables of optional and variable-l
   durpaxeta explain      prints the stored bytes, field by field, with what they are
   durpaxeta table        edits the cells of a working table: make, show, set, preview, pack
   durpaxeta guest        gives a guest the cells that it may see, and no others: show, read, edit
+  durpaxeta migrate      moves a table off the older form, chunk by chunk, while it is in use: begin, step, run, show, cut
   durpaxeta example      prints a worksheet to begin with
 
 'durpaxeta help COMMAND' or 'durpaxeta COMMAND --help' tells more about each; 'durpaxeta help' prints this page.
@@ -35,7 +36,7 @@ What takes over a second is told in a line on standard error, where that is a te
 In a message the name of a file, a word or a line stands on one line: line ends, controls, invisible and right-to-left
 characters and bytes that are no UTF-8 are told as \n, \r, \t or \x1B.
 
-Where write, cut, merge, convert, generate, table and guest write to:
+Where write, cut, merge, convert, generate, table, guest and migrate cut write to:
   A file is replaced whole or stays as it was. What is written goes to a temporary file in the same folder, is synced, and
   then takes the place of the old file, with its mode. On an error, or on a signal that ends the command, nothing is left
   of it. Commands that write one file take turns. What kill -9 or power loss left there, files named .durpaxeta-..., the
@@ -53,12 +54,12 @@ Exit status:
   0         all went well, and all of it was delivered
   1 to 20   the number of the refusal, whether or not anyone read the words to it
   64        a wrong command line, or an output that is also an input
-  65        a worksheet, a listing of a working table, or a file with a rights plane, that cannot be read
+  65        a worksheet, a listing of a working table, a file with a rights plane, or a list of migrate, that cannot be read
   66        a description that cannot be read
   67        --kind, --shape or --part that differ from the description; same, merge: two that do not go together
-  68, 69    a file of another length (68) or checksum (69) than its description says
-  71        same: two valid files that are not the same table
-  73        --no-clobber: the output is there already; arrangement --all: so is the folder, and it is not empty
+  68, 69    a file of another length (68) or checksum (69) than its description, or a list of migrate, says
+  71        same: two valid files that are not the same table; migrate run: a moved chunk that is not what its old file has
+  73        --no-clobber: the output is there already; arrangement --all, migrate begin: so is the folder, and it is not empty
   74        an error of the operating system; so is an output that was closed
   141       standard output's reader left before all was written, as in '.. | head'; nothing is told
 
@@ -357,6 +358,44 @@ Examples:
   durpaxeta guest edit --rights-file rights.txt --cell 0,1 --to 'value "8"' work.txt no.txt 2>&1 || echo "refused with $?"
   durpaxeta table show next.txt | durpaxeta write --describe - next.bin
   durpaxeta guest show --rights-file rights.txt next.bin
+"#;
+
+pub const MIGRATE: &str = r#"durpaxeta migrate begin --shape SHAPE --part SUBSET FILE [--part SUBSET FILE]... FOLDER
+durpaxeta migrate step FOLDER
+durpaxeta migrate run FOLDER
+durpaxeta migrate show FOLDER
+durpaxeta migrate cut [--kind KIND] --subset SUBSET [--describe] [--no-clobber] FOLDER OUT
+
+Moves a table off the older, interleaved form, chunk by chunk, while it is in use. The table is many files in that form, each with
+the subset of the whole whose cells it has; together they hold each cell once. The old files are only read. FOLDER gets the new
+ones, and may be read all along.
+
+  begin  makes FOLDER, new or empty (any other is kept, 73), of old files that are all valid. No chunk is moved yet.
+  step   moves the next chunk, in the order in which they were given, and tells how far it is.
+  run    moves all that are left. Then it reads the old files and what was moved again, and says whether each cell is the same.
+  show   tells how far it is, and of each chunk whether it is old or moved, and where it lies.
+  cut    stores the cells of a subset as a table, each from the chunk that holds it. It gives the same file before, between and after
+         steps, and while one is made. KIND is ragged and of depth 0; without it width 8, index at start.
+
+Stop step and run whenever you like, also with kill -9, or lose the power: FOLDER is then before or after a step, and run goes on from
+there. Several may run at once; they take turns. FOLDER has three files: chunks.txt names the old files, with the length and the
+checksum of each; area.bin has the moved chunks end to end, each a stored table of width 8, index at start; moved.txt lists their
+lengths and checksums. What area.bin has behind those is of a step that was not finished, and the next one writes over it.
+
+A file that is not what these lists say is refused: another length is 68, another checksum 69. An old file whose chunk is moved is not
+read any more, but by run in the end. Each step and each cut checks the whole table, and reads all that is left of it.
+
+Examples:
+  printf '\001\000\000\000\001\000\000\000A' > a.old
+  printf '\001\000\000\000\002\000\000\000BC' > b.old
+  durpaxeta migrate begin --shape 2 --part 1..2 a.old --part 0..1 b.old moving
+  durpaxeta migrate cut --subset 0..2 moving before.bin
+  durpaxeta migrate step moving
+  durpaxeta migrate cut --subset 0..2 moving between.bin
+  cmp before.bin between.bin
+  durpaxeta migrate run moving
+  cat moving/moved.txt
+  durpaxeta migrate cut --subset 0..2 moving - | durpaxeta show --kind "depth 0, ragged, width 8, index at start" --shape 2 -
 "#;
 
 pub const EXAMPLE_HELP: &str = r#"durpaxeta example

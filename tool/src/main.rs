@@ -1,5 +1,5 @@
 //! The command `durpaxeta`: shows, writes, cuts, merges, converts, generates, checks, compares and explains stored
-//! tables, gives every small one, edits working ones, and gives guests what they may see.
+//! tables, gives every small one, edits working ones, gives guests what they may see, and moves tables off the older form.
 
 #![deny(unsafe_code)]
 
@@ -18,6 +18,7 @@ mod listing;
 mod literal;
 mod locate;
 mod memory;
+mod migrate;
 mod output;
 mod pair;
 #[cfg(test)]

@@ -190,6 +190,11 @@ impl Turn {
         Turn::wait(&place.output.name, place.path, watch)
     }
 
+    /// Whether a signal is held back, which ends the command as the turn ends.
+    pub fn stopped(&self) -> bool {
+        self.held.arrived()
+    }
+
     /// Waits for the turn. On a file system without locks nobody waits, and nothing that was left is known for it.
     fn wait(name: &str, place: &Path, watch: &Watch) -> Result<Turn, Failure> {
         let folder = folder(place).to_path_buf();
@@ -353,7 +358,8 @@ fn remove(path: &Path) {
     let _ = if path.is_dir() { fs::remove_dir_all(path) } else { fs::remove_file(path) };
 }
 
-fn sync(file: &File) -> io::Result<()> {
+/// Syncs a file or a folder.
+pub fn sync(file: &File) -> io::Result<()> {
     synced(file.sync_all())
 }
 

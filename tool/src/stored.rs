@@ -144,7 +144,11 @@ pub struct Interleaved {
 impl Interleaved {
     /// Reads the older form, as `by` asks for. A file that is described is a table, and so is none.
     pub fn read(path: &OsStr, by: &str, arguments: &Arguments, watch: &Watch) -> Result<Interleaved, Failure> {
-        let shape = given_shape(arguments)?.ok_or_else(|| missing_shape(""))?;
+        Interleaved::of(path, by, given_shape(arguments)?.ok_or_else(|| missing_shape(""))?, watch)
+    }
+
+    /// The same, of a shape that is known.
+    pub fn of(path: &OsStr, by: &str, shape: Vec<u64>, watch: &Watch) -> Result<Interleaved, Failure> {
         let Pair { input, described } = Pair::read(path, watch)?;
         if let Some(described) = described {
             let kind = format!("\"{}\"", described.says().kind);

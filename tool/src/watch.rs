@@ -73,6 +73,11 @@ impl Watch {
         Watch { shared, thread }
     }
 
+    /// Watches a part of a command that is told as a whole.
+    pub fn silent() -> Watch {
+        Watch { shared: Arc::default(), thread: None }
+    }
+
     /// Begins a step of so many units; of one that is not known beforehand the count so far is told.
     pub fn step(&self, what: impl Into<String>, total: Option<u64>, unit: &'static str) {
         let mut state = self.shared.lock();

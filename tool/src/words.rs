@@ -76,10 +76,6 @@ pub fn subset_of(text: &str, shape: &[u64], subject: &str) -> Result<(Subset, us
     }
 }
 
-pub fn subset_text(subset: &Subset) -> String {
-    subset.to_string()
-}
-
 /// Reads a rights plane: `1,0,1`, 1 for each cell that is shown and 0 for each other one.
 pub fn rights(text: &str, subject: &str) -> Result<Rights, Failure> {
     text.parse().map_err(|error| told(error, subject))

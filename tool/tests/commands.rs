@@ -4,6 +4,7 @@ mod common;
 
 use common::*;
 use std::fs;
+use std::io::Write;
 use std::path::Path;
 
 #[test]
@@ -646,9 +647,10 @@ fn help_examples_work_as_printed() {
         assert!(general.text().contains(&status.to_string()), "status {status} is not on the page");
     }
     let mut pages = vec![("durpaxeta".to_string(), general.text().to_string())];
-    for command in
-        ["show", "write", "cut", "merge", "convert", "generate", "check", "same", "explain", "guest", "example"]
-    {
+    for command in [
+        "show", "write", "cut", "merge", "convert", "generate", "check", "same", "explain", "guest", "migrate",
+        "example",
+    ] {
         assert!(general.text().contains(&format!("  durpaxeta {command} ")), "{command} is not in the list");
         let page = run(Path::new("."), &[command, "--help"], b"");
         assert_eq!(page.status, 0);

@@ -65,7 +65,7 @@ fn line(words: &str, word: &OsStr) -> Vec<OsString> {
 }
 
 /// Each command with hostile names of files, there and not there, good and damaged.
-const FILES: [&str; 53] = [
+const FILES: [&str; 60] = [
     "show --kind KIND --shape 2x2 none%",
     "show none%",
     "show described/%",
@@ -119,10 +119,17 @@ const FILES: [&str; 53] = [
     "guest show --rights-file damaged/% described/%",
     "guest read --rights 1,0,1 described/% out",
     "guest edit --rights 0,0,0,0 --cell 0,0 --to null works/% out",
+    "migrate begin --shape 2 --part 0..2 damaged/% none%",
+    "migrate begin --shape 2 --part 0..2 old/% tables/%",
+    "migrate begin --shape 2 --part 0..2 old/% moving%",
+    "migrate show moving%",
+    "migrate cut --subset 0..2 moving% old/%",
+    "migrate run moving%",
+    "migrate step works/%",
 ];
 
 /// Hostile words on the command line.
-const WORDS: [&str; 30] = [
+const WORDS: [&str; 33] = [
     "%",
     "help %",
     "help show %",
@@ -153,6 +160,9 @@ const WORDS: [&str; 30] = [
     "table set --cell 0,0 --to % works/w out",
     "table pack --most % works/w out",
     "guest show --rights % f",
+    "migrate %",
+    "migrate begin --shape 2 --part % f out",
+    "migrate cut --subset % moving out",
 ];
 
 #[test]
