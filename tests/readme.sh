@@ -17,12 +17,16 @@ block sh 1 > "$out/table.sh"
 block text 1 > "$out/table.txt"
 block c 1 > "$out/example.c"
 block sh 2 > "$out/example.sh"
+block sh 3 > "$out/migrate.sh"
+block text 2 > "$out/migrate.txt"
 block rust 1 > "$out/path/src/main.rs"
-for file in "$out"/table.sh "$out"/table.txt "$out"/example.c "$out"/example.sh "$out"/path/src/main.rs; do
+for file in "$out"/table.sh "$out"/table.txt "$out"/example.c "$out"/example.sh "$out"/migrate.sh "$out"/migrate.txt "$out"/path/src/main.rs; do
     [ -s "$file" ] || { echo "readme: nothing for $file" >&2; exit 1; }
 done
 
 (cd "$out" && bash -eu table.sh) | diff "$out/table.txt" - || { echo 'readme: the first table is shown otherwise' >&2; exit 1; }
+
+(cd "$out" && PATH="$out/build:$PATH" bash -eu migrate.sh) | diff "$out/migrate.txt" - || { echo 'readme: a table that is moved is shown otherwise' >&2; exit 1; }
 
 gcc -std=c11 -Wall -Wextra -Werror -fsyntax-only -I"$out/build" "$out/example.c"
 said=$(cd "$out" && bash -eu example.sh)
@@ -51,4 +55,4 @@ for by in path by_git; do
     said=$("$by")
     [ "$said" = '42 bytes' ] || { echo "readme: the Rust example, $by, says '$said'" >&2; exit 1; }
 done
-echo 'the first table is shown as printed; the examples in C and Rust, the latter by path and by git, say 42 bytes'
+echo 'the first table and one that is moved are shown as printed; the examples in C and Rust, the latter by path and by git, say 42 bytes'
