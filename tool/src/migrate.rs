@@ -216,13 +216,7 @@ impl Moving {
     fn read(&mut self, watch: &Watch) -> Result<(), Failure> {
         let stamps = self.moved.iter().chain(self.chunks.iter().skip(self.moved.len()).map(|chunk| &chunk.stamp));
         let bytes = stamps.fold(0, |sum: u64, stamp| sum.saturating_add(stamp.bytes));
-        if !memory::holds(bytes.saturating_mul(3)) {
-            let what = format!(
-                "cannot read {}: its chunks have {bytes} bytes, and there is no memory for 3 times as many",
-                self.name
-            );
-            return Err(Failure::plain(SYSTEM, what));
-        }
+        room_for(bytes, &self.name)?;
         let mut area = files::read(self.path(AREA).as_os_str(), watch)?;
         self.area = std::mem::take(&mut area.bytes);
         let (list, mut end) = (self.list(MOVED), 0);
@@ -398,6 +392,15 @@ impl Moving {
     }
 }
 
+/// A table is held as its strings, as they are read, and as what is cut or moved of them.
+fn room_for(bytes: u64, name: &str) -> Result<(), Failure> {
+    if memory::holds(bytes.saturating_mul(3)) {
+        return Ok(());
+    }
+    let what = format!("cannot read {name}: its chunks have {bytes} bytes, and there is no memory for 3 times as many");
+    Err(Failure::plain(SYSTEM, what))
+}
+
 pub fn begin(arguments: &Arguments, watch: &Watch) -> Result<u8, Failure> {
     let shape = given_shape(arguments)?.ok_or_else(|| missing_shape(""))?;
     if arguments.parts.is_empty() {
@@ -417,6 +420,8 @@ pub fn begin(arguments: &Arguments, watch: &Watch) -> Result<u8, Failure> {
         inputs: Vec::new(),
         shape,
     };
+    let lengths = arguments.parts.iter().filter_map(|(_, path)| Some(fs::metadata(path).ok()?.len()));
+    room_for(lengths.fold(0, u64::saturating_add), "the table")?;
     for (text, path) in &arguments.parts {
         let subset = subset_with_cells(text, &moving.shape)?;
         let name = files::name(path, "standard input");

@@ -98,7 +98,8 @@ fn a_typed_line() {
     assert!(said.err.starts_with("durpaxeta: standard input, line 4: refusal 4: "), "{}", said.err);
     assert!(said.err.contains("Bytes before the first cell are in no cell: remove the line.\n"), "{}", said.err);
     assert!(
-        said.err.contains("Caused by whoever hands over the array, chunk list, working table, live table or rights plane."),
+        said.err
+            .contains("Caused by whoever hands over the array, chunk list, working table, live table or rights plane."),
         "{}",
         said.err
     );

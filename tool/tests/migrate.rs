@@ -285,6 +285,14 @@ fn what_begin_refuses() {
     begin(&["--shape", "1", "--part", "0..1", "new.bin", "to"], 67, "new.bin.dpx");
     begin(&["--shape", "1", "--part", "0..1", "a.old", "full"], 73, "full is there already");
     begin(&["--shape", "1", "--part", "0..1", "a.old", "a.old"], 73, "a.old is there already");
+    // More than memory holds, together.
+    for file in ["c.old", "d.old"] {
+        fs::File::create(folder.join(file)).unwrap().set_len(1 << 42).unwrap();
+    }
+    let parts = ["migrate", "begin", "--shape", "2", "--part", "0..1", "c.old", "--part", "1..2", "d.old", "to"];
+    let said = run(&folder, &parts, b"");
+    let told = "the table: its chunks have 8796093022208 bytes, and there is no memory for 3 times as many";
+    assert_eq!((said.status, said.err), (74, format!("durpaxeta: cannot read {told}\n")));
     for words in
         [&["step", "none"][..], &["run", "a.old"], &["show", "full"], &["cut", "--subset", "0..1", "full", "-"]]
     {

@@ -105,3 +105,28 @@ fn what_is_being_done() {
         assert!(!line.contains("16777240 of 16777240"), "{line:?}");
     }
 }
+
+/// A table that is moved tells how many chunks are, and then how many are compared.
+#[test]
+fn chunks_that_are_moved() {
+    let folder = folder("migrate-progress");
+    let mut begin: Vec<String> = ["migrate", "begin", "--shape", "256x256"].map(String::from).to_vec();
+    fs::write(folder.join("row.old"), [&256_u32.to_le_bytes()[..], &[0; 4 * 256]].concat()).unwrap();
+    for row in 0..256 {
+        begin.extend(["--part".into(), format!("{row}..{},0..256", row + 1), "row.old".into()]);
+    }
+    begin.push("a\u{9B}2J".into());
+    good(&folder, &begin.iter().map(String::as_str).collect::<Vec<_>>());
+    let (status, shown) = on_terminal(&folder, &["migrate", "run", "a\u{9B}2J"], "xterm", [b"", b""], 0);
+    assert_eq!(status, 0, "{shown:?}");
+    let (lines, rest) = apart(&shown);
+    assert_eq!(rest, if lines.is_empty() { "" } else { ERASED }, "{shown:?}");
+    for line in lines {
+        let known =
+            ["moving the chunks of ", "comparing the chunks of "].iter().find_map(|begin| line.strip_prefix(begin));
+        let read = ["reading ", "decoding "].iter().any(|begin| line.starts_with(begin));
+        let count =
+            known.and_then(|rest| rest.strip_prefix("a\\xC2\\x9B2J: ")?.strip_suffix(" of 256 chunks")?.parse().ok());
+        assert!(read || count.is_some_and(|count: usize| count <= 256), "{line:?}");
+    }
+}
