@@ -123,7 +123,33 @@ pub fn uncovered(sink: &mut dyn Sink, rng: &mut Rng) {
     }
 }
 
-/// Each byte of each string changed, each string cut and made longer: with a cut of the chunk, of the other one, and of no cell.
+/// The table with another string for a chunk.
+fn with_string(t: &LiveTable, at: usize, string: &[u8]) -> LiveTable {
+    let mut t = t.clone();
+    let (lengths, bytes) =
+        if (at as u64) < t.moved { (&mut t.moved_lengths, &mut t.area) } else { (&mut t.old_lengths, &mut t.old) };
+    let start = lengths[..at].iter().sum::<u64>() as usize;
+    bytes.splice(start..start + lengths[at] as usize, string.iter().copied());
+    lengths[at] = string.len() as u64;
+    t
+}
+fn string_of(t: &LiveTable, at: usize) -> &[u8] {
+    let (lengths, bytes) = if (at as u64) < t.moved { (&t.moved_lengths, &t.area) } else { (&t.old_lengths, &t.old) };
+    let start = lengths[..at].iter().sum::<u64>() as usize;
+    &bytes[start..start + lengths[at] as usize]
+}
+
+/// Of two cells: refused with 7, 9 and 11, or with 7, 8 and 10.
+fn refused(moved: bool) -> [Vec<u8>; 3] {
+    if moved {
+        [vec![], vec![0; 8], [&[24_u64, 1, 1, 1].map(u64::to_le_bytes).concat()[..], &[0]].concat()]
+    } else {
+        [vec![], vec![3; 12], [2_u32, 1, 0].map(u32::to_le_bytes).concat()]
+    }
+}
+
+/// Each byte of each string changed, each string cut and made longer: with a cut of the chunk, of the other one, and of no cell. Two strings at once, each
+/// refused in its ways: the chunks' order is not that of their cells.
 pub fn damages(sink: &mut dyn Sink, rng: &mut Rng) {
     let shape = vec![4];
     for moved in 0..=2 {
@@ -132,23 +158,19 @@ pub fn damages(sink: &mut dyn Sink, rng: &mut Rng) {
             (subset, Content { masks: vec![], values: rng.bytes(offsets[2] as usize), offsets })
         });
         let t = table(rng, &shape, &chunks, moved, false);
+        let mut wrong = vec![];
         for at in 0..2 {
-            let (lengths, bytes) = if at < moved { (&t.moved_lengths, &t.area) } else { (&t.old_lengths, &t.old) };
-            let start = lengths[..at].iter().sum::<u64>() as usize;
-            let own = start..start + lengths[at] as usize;
-            for string in each_damage(&bytes[own.clone()]) {
-                let mut wrong = t.clone();
-                let (lengths, bytes) = if at < moved {
-                    (&mut wrong.moved_lengths, &mut wrong.area)
-                } else {
-                    (&mut wrong.old_lengths, &mut wrong.old)
-                };
-                lengths[at] = string.len() as u64;
-                bytes.splice(own.clone(), string);
-                [[2, 2], [0, 2], [1, 0]].iter().for_each(|subset| sink.ask(cut(&wrong, subset)));
-                let room = wrong.area.len() + 64;
-                sink.ask(step(&with_area(rng, &wrong, room)));
+            wrong.extend(each_damage(string_of(&t, at)).iter().map(|string| with_string(&t, at, string)));
+        }
+        for one in refused(moved > 0) {
+            for other in refused(moved > 1) {
+                wrong.push(with_string(&with_string(&t, 0, &one), 1, &other));
             }
+        }
+        for wrong in wrong {
+            [[2, 2], [0, 2], [1, 0]].iter().for_each(|subset| sink.ask(cut(&wrong, subset)));
+            let room = wrong.area.len() + 64;
+            sink.ask(step(&with_area(rng, &wrong, room)));
         }
     }
 }
@@ -440,8 +462,8 @@ impl Compare {
                 break;
             }
             entered += 1;
-            if entered > chunks as u64 {
-                return Err((CUTS, format!("more steps than {chunks} chunks")));
+            if r.second != t.moved + 1 || r.second > chunks as u64 {
+                return Err((CUTS, format!("{} of {chunks} chunks moved, behind {}", r.second, t.moved)));
             }
             t = LiveTable { moved: r.second, moved_lengths: r.lengths, area: r.values, ..t };
         }
