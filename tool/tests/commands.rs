@@ -4,6 +4,7 @@ mod common;
 
 use common::*;
 use std::fs;
+use std::io::Write;
 use std::path::Path;
 
 #[test]
