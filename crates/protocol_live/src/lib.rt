@@ -1,6 +1,7 @@
 // Requests of calls on live tables, answered.
 #![tactic(auto)]
 
+use array::answer::Lengths;
 use array::refusal::Refusal;
 use migrate_check::stored::LiveTable;
 use migrate_step::Step;
@@ -65,6 +66,18 @@ fn respond_step(out: &mut impl Write, q: LiveRequest<'_>) -> io::Result<()> {
     write_step(out, answer, q, moved_lengths, area)
 }
 
+fn extract(q: LiveRequest<'_>, outputs: &mut LentArray<'_>) -> Result<Lengths, Refusal> {
+    ragged_told(migrate_extract::migrate_extract(
+        table_of(q),
+        q.subset,
+        q.moved,
+        q.moved_lengths,
+        q.area,
+        outputs.values,
+        outputs.offsets,
+    ))
+}
+
 fn respond_extract(out: &mut impl Write, q: LiveRequest<'_>) -> io::Result<()> {
     let [v, o] = q.rooms else {
         return show::write_line(out, b"bad line");
@@ -80,15 +93,7 @@ fn respond_extract(out: &mut impl Write, q: LiveRequest<'_>) -> io::Result<()> {
         offsets: &mut offsets[..rooms.offsets],
     };
     outputs.lend(None);
-    let answer = ragged_told(migrate_extract::migrate_extract(
-        table_of(q),
-        q.subset,
-        q.moved,
-        q.moved_lengths,
-        q.area,
-        outputs.values,
-        outputs.offsets,
-    ));
+    let answer = extract(q, &mut outputs);
     responses::write_answer(out, Outputs::Ragged, answer, None, &outputs)
 }
 
