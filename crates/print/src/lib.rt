@@ -2,6 +2,8 @@
 // digits; COUNT*X is a run of equal ones, and `+` joins runs and plain parts.
 #![tactic(auto)]
 
+pub mod cut;
+
 ghost use Rattle.std.specs.Prelude.{◌≡◌, ◌↔◌, ◌<◌, ℕ, true, List, [], Some, codes, length, IfOk};
 ghost use Rattle.std.specs.Fn.{ComputesOnPairs};
 ghost use Rattle.std.specs.Slice.Iter.{chunk_by_callee, chunk_by_rest};
