@@ -45,7 +45,8 @@ fn preview_sound(table: Table, order: &[u16], setting: Setting) -> Result<Previe
         (setting_answer setting.entry.cell setting.entry.masks.now setting.entry.value.now (lent_table table.entry)) }
 {
     let room = table.store.len();
-    let fitting = fit(table.lengths, room, setting)?;
+    let length = setting.value.len();
+    let fitting = fit(table.lengths, room, setting.cell, setting.masks, length)?;
     let size = fitting.size;
     let total = fitting.others;
     let found = others::look_at(table.starts, table.lengths, order, setting.cell);
