@@ -59,9 +59,9 @@ fn respond(out: &mut impl Write, call: Call, q: Request<'_>) -> io::Result<()> {
     let Some(rooms) = responses::rooms_of(call, q.rooms, bytes, BYTES, BYTES, NUMBERS) else {
         return show::write_line(out, b"bad line");
     };
-    let mut masks = [0; BYTES];
-    let mut values = [0; BYTES];
-    let mut offsets = [0; NUMBERS];
+    let mut masks = room::<u8, BYTES>(0);
+    let mut values = room::<u8, BYTES>(0);
+    let mut offsets = room::<u64, NUMBERS>(0);
     let mut lent = LentArray {
         masks: &mut masks[..rooms.masks],
         values: &mut values[..rooms.values],
