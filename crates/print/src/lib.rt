@@ -96,7 +96,7 @@ fn show_each<W: Write, T: Element>(f: &mut Formatter<W>, list: &[T], last: Last)
 {
     let mut before = joint::<T>(last);
     for x in list {
-        write!(f, "{before}")?;
+        f.write_str(before)?;
         x.show(f)?;
         before = T::joint();
     }
