@@ -25,6 +25,7 @@ use stored_frames::walk_content;
 use stored_index::{Index, check_ragged};
 
 // Values with no mask: the stored offsets and bytes. What is lent for masks stays.
+#[tactic(auto, using(crate::proofs::RaggedWritten::flat_written))]
 fn write_flat(
     width: IndexWidth,
     s: &[u8],

@@ -200,9 +200,9 @@ module _ {x : Masks} {n : ℕ} {masks : List ℕ} {l : ℕ} {d : List ℕ} {to :
         whole = λ h. omega (arith, eights (omega (arith, p.counted, rest_long)), p.whole (omega (arith, block_fits)));
       }
 
--- ---- the next block: as many cells as are left, and at most 256
+-- ---- the next block: as many cells as are left, and at most k, which fill whole bytes
 
-module _ {all count done m : ℕ} (ec : count ≡ all) (h : done < count) (e : m ≡ min (count - done) 256) where
+module _ {all count done m k : ℕ} (ec : count ≡ all) (h : done < count) (e : m ≡ min (count - done) k) (some : 1 ≤ k) (eights : k % 8 ≡ 0) where
   next_some : 1 ≤ m
   next_some = omega arith
 
@@ -212,18 +212,21 @@ module _ {all count done m : ℕ} (ec : count ≡ all) (h : done < count) (e : m
   next_eights : done + m < all → m % 8 ≡ 0
   next_eights q = omega arith
 
-  next_done : done + m ≡ min (done + 256) count
+  next_done : done + m ≡ min (done + k) count
   next_done = omega arith
 
 pub blocks_at : {x : Masks} {n : ℕ} {masks : List ℕ} {l : ℕ} {d : List ℕ} {to : ℕ} {out : List ℕ} {i j k : ℕ} → j ≡ k → Blocks x n masks l d to out i j → Blocks x n masks l d to out i k
 blocks_at {x} {n} {masks} {l} {d} {to} {out} {i} e p = subst (λ (j : ℕ). Blocks x n masks l d to out i j) e p
 
-module _ {x : Masks} {n : ℕ} {masks : List ℕ} {l : ℕ} {d : List ℕ} {to : ℕ} {out : List ℕ} {i done count m : ℕ}
-    (p : Blocks x n masks l d to out i (min done count)) (ec : count ≡ length (live_at n masks l)) (h : done < count) (e : m ≡ min (count - done) 256) where
+module _ {x : Masks} {n : ℕ} {masks : List ℕ} {l : ℕ} {d : List ℕ} {to : ℕ} {out : List ℕ} {i done count m k : ℕ}
+    (p : Blocks x n masks l d to out i (min done count)) (ec : count ≡ length (live_at n masks l)) (h : done < count) (e : m ≡ min (count - done) k)
+    (some : 1 ≤ k) (eights : k % 8 ≡ 0) where
   now : Blocks x n masks l d to out i done
   now = blocks_at (omega (arith, h)) p
 
   pub next_block : {block block' : List ℕ} {r : ℕ} → Gathered n masks l block i m block' r
       → {at : ℕ} → at ≡ (mask_form x).size done → {out' : List ℕ} → out' ≡ over_at (to + at) ((mask_form x).put (take m block')) out
-      → Blocks x n masks l d to out' r (min (done + 256) count)
-  next_block q ea eo = blocks_at (next_done ec h e) (blocks_more now (next_some ec h e) (next_fits ec h e) (next_eights ec h e) q ea eo)
+      → Blocks x n masks l d to out' r (min (done + k) count)
+  next_block q ea eo =
+      blocks_at (next_done ec h e some eights)
+      (blocks_more now (next_some ec h e some eights) (next_fits ec h e some eights) (next_eights ec h e some eights) q ea eo)

@@ -2,6 +2,8 @@
 // digits; COUNT*X is a run of equal ones, and `+` joins runs and plain parts.
 #![tactic(auto)]
 
+pub mod cut;
+
 ghost use Rattle.std.specs.Prelude.{◌≡◌, ◌↔◌, ◌<◌, ℕ, true, List, [], Some, codes, length, IfOk};
 ghost use Rattle.std.specs.Fn.{ComputesOnPairs};
 ghost use Rattle.std.specs.Slice.Iter.{chunk_by_callee, chunk_by_rest};
@@ -94,7 +96,7 @@ fn show_each<W: Write, T: Element>(f: &mut Formatter<W>, list: &[T], last: Last)
 {
     let mut before = joint::<T>(last);
     for x in list {
-        write!(f, "{before}")?;
+        f.write_str(before)?;
         x.show(f)?;
         before = T::joint();
     }

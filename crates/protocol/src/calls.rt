@@ -36,7 +36,7 @@ fn run_kind(
         Call::Generate => generate::generate(
             kind,
             q.shape,
-            start_of(q.subset).unwrap_or(0),
+            start_of(q.subset),
             out.masks,
             out.values,
             out.offsets,

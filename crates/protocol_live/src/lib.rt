@@ -37,18 +37,20 @@ fn write_step(
     moved_lengths: &[u64],
     area: &[u8],
 ) -> io::Result<()> {
-    let moved = q.moved;
-    match answer {
+    let (bytes, moved) = match answer {
         Err(e) => {
             show::write_refused(out, e)?;
             return show::write_end(out, moved_lengths == q.moved_lengths && area == q.area);
         }
-        Ok(Step::NoneLeft) => write!(out, "ok 0,{moved}")?,
-        Ok(Step::Moved { bytes, moved }) => write!(out, "ok {bytes},{moved}")?,
-    }
+        Ok(Step::NoneLeft) => (0, q.moved),
+        Ok(Step::Moved { bytes, moved }) => (bytes, moved),
+    };
     let moved_lengths = Listed(moved_lengths);
     let area = Listed(area);
-    writeln!(out, ": {moved_lengths} {area}")
+    show::write_shown_line(
+        out,
+        format_args!("ok {bytes},{moved}: {moved_lengths} {area}"),
+    )
 }
 
 fn respond_step(out: &mut impl Write, q: LiveRequest<'_>) -> io::Result<()> {

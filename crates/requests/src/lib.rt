@@ -8,9 +8,12 @@ mod lists;
 pub mod live;
 pub mod tables;
 
+ghost use Rattle.std.specs.Prelude.{◌≡◌, ◌^◌, nat_lt, get_or, if◌then◌else◌};
+
 use crate::call::{Call, Fields};
 use crate::lists::Lists;
 use array::content::ArrayBytes;
+use text::scan::number_at;
 
 // The lists of a line; one that the line has not is empty. The array's values are stored bytes where the call takes these.
 #[derive(Clone, Copy)]
@@ -50,18 +53,26 @@ fn read_request<'a>(f: Fields, lists: &mut Lists<'a, '_>) -> Option<Request<'a>>
     })
 }
 
-// The start number of a load, in the subset's place: one number of 32 bits.
-pub fn start_of(subset: &[u64]) -> Option<u32> {
+// The start number of a load, in the subset's place; 0 where the first number there has more than 32 bits, or there is none.
+pub fn start_of(subset: &[u64]) -> u32
+    ensures { result ≡ (if nat_lt (get_or subset.now 0 0) (2 ^ 32)
+        then get_or subset.now 0 0 else 0) }
+{
+    u32::try_from(number_at(subset, 0)).unwrap_or(0)
+}
+
+// Whether there is one start number, of 32 bits.
+fn has_start(subset: &[u64]) -> bool {
     let [start] = subset else {
-        return None;
+        return false;
     };
-    u32::try_from(*start).ok()
+    u32::try_from(*start).is_ok()
 }
 
 // Whether a request for a load has its start number, and one for a working table one count of cells in the shape's place.
 fn is_complete(call: Call, request: Request<'_>) -> bool {
     match call {
-        Call::Generate => start_of(request.subset).is_some(),
+        Call::Generate => has_start(request.subset),
         Call::MakeTable => request.shape.len() == 1,
         _ => true,
     }

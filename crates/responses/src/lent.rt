@@ -1,5 +1,5 @@
 // Outputs as they are lent: filled beforehand, and looked through afterwards.
-ghost use Rattle.std.specs.Prelude.{◌≡◌, ◌&&◌, ◌≤◌, length, drop, leb, IfSome};
+ghost use Rattle.std.specs.Prelude.{◌≡◌, ◌&&◌, ◌≤◌, length, drop, eqb, leb, nat_le, if◌then◌else◌, None, Some, IfSome};
 ghost use Rattle.std.specs.List.{list_all};
 
 use array::answer::Lengths;
@@ -27,6 +27,21 @@ fn all_from<T: PartialEq>(out: &[T], from: usize, blank: &T) -> bool
     from <= out.len() && all_same(&out[from..], blank)
 }
 
+// Whether the bytes from `from` on are as they were lent, blank each.
+fn blank_bytes(out: &[u8], from: usize) -> bool
+    ensures { result ≡ (leb from (length out.now)
+        && list_all (λ x. eqb x 238) (drop from out.now)) }
+{
+    all_from(out, from, &BLANK)
+}
+
+fn blank_numbers(out: &[u64], from: usize) -> bool
+    ensures { result ≡ (leb from (length out.now)
+        && list_all (λ x. eqb x 17216961135462248174) (drop from out.now)) }
+{
+    all_from(out, from, &BLANK_NUMBER)
+}
+
 // The outputs of a call, as it is lent them.
 #[derive(Drop)]
 pub struct LentArray<'a> {
@@ -38,7 +53,7 @@ pub struct LentArray<'a> {
 // Whether the lent values from `from` on are as they were lent: the bytes of the request where the call works in place, else blank.
 fn kept_values(in_place: Option<&[u8]>, values: &[u8], from: usize) -> bool {
     let Some(bytes) = in_place else {
-        return all_from(values, from, &BLANK);
+        return blank_bytes(values, from);
     };
     match (values.get(from..), bytes.get(from..)) {
         (Some(values), Some(bytes)) => values == bytes,
@@ -77,9 +92,9 @@ impl LentArray<'_> {
 
     // Whether the outputs beyond some lengths are as they were lent.
     fn kept_beyond(&self, in_place: Option<&[u8]>, lengths: Lengths) -> bool {
-        all_from(self.masks, lengths.masks, &BLANK)
+        blank_bytes(self.masks, lengths.masks)
             && kept_values(in_place, self.values, lengths.values)
-            && all_from(self.offsets, lengths.offsets, &BLANK_NUMBER)
+            && blank_numbers(self.offsets, lengths.offsets)
     }
 
     // Whether the outputs are as they were lent beyond the lengths that an answer names; a refusal names none.
@@ -129,16 +144,17 @@ impl LentTable<'_> {
 
     // Whether the outputs beyond some lengths are as they were lent.
     pub fn is_blank_beyond(&self, lengths: TableLengths) -> bool {
-        all_from(self.masks, lengths.masks, &BLANK)
-            && all_from(self.starts, lengths.starts, &BLANK_NUMBER)
-            && all_from(self.lengths, lengths.lengths, &BLANK_NUMBER)
-            && all_from(self.store, lengths.store, &BLANK)
+        blank_bytes(self.masks, lengths.masks)
+            && blank_numbers(self.starts, lengths.starts)
+            && blank_numbers(self.lengths, lengths.lengths)
+            && blank_bytes(self.store, lengths.store)
     }
 }
 
 // A length of an output to lend, if there is as much.
 fn within(n: u64, all: usize) -> Option<usize>
-    ensures { IfSome result (λ k. k ≤ all) }
+    ensures value { result ≡ (if nat_le n all then Some n else None) }
+    ensures small { IfSome result (λ k. k ≤ all) }
 {
     (n <= all as u64).then_some(n as usize)
 }

@@ -10,6 +10,7 @@ pub mod told;
 ghost use Rattle.std.specs.Prelude.{◌≤◌, IfSome};
 
 use crate::lent::LentArray;
+use crate::show::write_shown_line;
 use array::answer::Lengths;
 use array::refusal::Refusal;
 use print::Listed;
@@ -59,12 +60,13 @@ pub fn rooms_of(
     }
 }
 
-// The lengths that success names, and the outputs up to those.
+// The lengths that success names, and the outputs up to those; the end of a text that is too long for its line is cut off.
 fn write_ok(
     out: &mut impl Write,
     shown: Outputs,
     lengths: Lengths,
     outputs: &LentArray<'_>,
+    kept: bool,
 ) -> io::Result<()> {
     let m = lengths.masks;
     let v = lengths.values;
@@ -73,11 +75,17 @@ fn write_ok(
     let masks = Listed(array.masks);
     let values = Listed(array.values);
     let offsets = Listed(array.offsets);
+    let end = if kept { "" } else { " spoilt" };
     match shown {
-        Outputs::Values => write!(out, "ok {v}: {values}"),
-        Outputs::Offsets => write!(out, "ok {o}: {offsets}"),
-        Outputs::Ragged => write!(out, "ok {v},{o}: {values} {offsets}"),
-        Outputs::Array => write!(out, "ok {m},{v},{o}: {masks} {values} {offsets}"),
+        Outputs::Values => write_shown_line(out, format_args!("ok {v}: {values}{end}")),
+        Outputs::Offsets => write_shown_line(out, format_args!("ok {o}: {offsets}{end}")),
+        Outputs::Ragged => {
+            write_shown_line(out, format_args!("ok {v},{o}: {values} {offsets}{end}"))
+        }
+        Outputs::Array => write_shown_line(
+            out,
+            format_args!("ok {m},{v},{o}: {masks} {values} {offsets}{end}"),
+        ),
     }
 }
 
@@ -89,9 +97,12 @@ pub fn write_answer(
     in_place: Option<&[u8]>,
     outputs: &LentArray<'_>,
 ) -> io::Result<()> {
+    let kept = outputs.kept(in_place, answer);
     match answer {
-        Ok(lengths) => write_ok(out, shown, lengths, outputs)?,
-        Err(e) => show::write_refused(out, e)?,
+        Ok(lengths) => write_ok(out, shown, lengths, outputs, kept),
+        Err(e) => {
+            show::write_refused(out, e)?;
+            show::write_end(out, kept)
+        }
     }
-    show::write_end(out, outputs.kept(in_place, answer))
 }

@@ -1,16 +1,24 @@
 // Answers and lists written to a writer.
-ghost use Rattle.std.specs.Prelude.{[], ◌∷◌, ◌++◌, ◌≡◌, OnOk};
+ghost use Rattle.std.specs.Prelude.{[], ◌∷◌, ◌++◌, ◌≡◌, take, IfSome, OnOk};
 ghost use Rattle.std.specs.Io.KnownBytes.{Appends};
 ghost use Rattle.array.specs.Meaning.{lent};
+ghost use Rattle.print.specs.Print.{list_text};
 ghost use Rattle.responses.specs.Told.{up_to};
 
 use array::answer::Lengths;
 use array::content::ArrayBytes;
 use array::refusal::Refusal;
-use print::Listed;
+use print::cut::Cut;
+use print::{Element, Listed};
+use std::fmt::Display;
 use std::io;
 use std::io::Write;
 use text::scan::part_of;
+
+// Room for the text of a part of a line, as of a list, and of a whole line. What is beyond is cut off.
+const PART: usize = 16384;
+
+const LINE: usize = 262144;
 
 pub fn write_text<W: Write>(out: &mut W, text: &[u8]) -> io::Result<()>
     ensures { OnOk result (Appends (W.contents out.old) (W.contents out.new) text.now) }
@@ -25,17 +33,47 @@ pub fn write_line<W: Write>(out: &mut W, line: &[u8]) -> io::Result<()>
     write_text(out, b"\n")
 }
 
+// What a value shows as: a part of a line, cut off where its room is full.
+pub fn write_shown<W: Write, D: Display + Drop>(out: &mut W, shown: D) -> io::Result<()>
+    ensures { OnOk result (IfSome (D.output shown) (λ text.
+        Appends (W.contents out.old) (W.contents out.new) (take 16384 text))) }
+{
+    let mut text = Cut::<PART>::new();
+    text.show(shown)?;
+    write_text(out, text.as_bytes())
+}
+
+// The same of a whole line, which has more room; its end is not cut off.
+pub fn write_shown_line<W: Write, D: Display + Drop>(out: &mut W, shown: D) -> io::Result<()>
+    ensures { OnOk result (IfSome (D.output shown) (λ text.
+        Appends (W.contents out.old) (W.contents out.new) (take 262144 text ++ 10 ∷ []))) }
+{
+    let mut text = Cut::<LINE>::new();
+    text.show(shown)?;
+    write_line(out, text.as_bytes())
+}
+
+// The text of a list, as a part of a line.
+pub fn write_list<W: Write, T: Element>(out: &mut W, list: &[T]) -> io::Result<()>
+    ensures { OnOk result (Appends (W.contents out.old) (W.contents out.new)
+        (take 16384 (list_text T.eq T.joint T.text list.now))) }
+{
+    write_shown(out, Listed(list))
+}
+
 // The end of an answer's line: whether all is kept that should be.
 pub fn write_end(out: &mut impl Write, kept: bool) -> io::Result<()> {
-    let spoilt = if kept { "" } else { " spoilt" };
-    writeln!(out, "{spoilt}")
+    let end = if kept { "\n" } else { " spoilt\n" };
+    write_text(out, end.as_bytes())
 }
 
 pub fn write_lists(out: &mut impl Write, array: ArrayBytes<'_>) -> io::Result<()> {
-    let masks = Listed(array.masks);
-    let values = Listed(array.values);
-    let offsets = Listed(array.offsets);
-    writeln!(out, "{masks} {values} {offsets}")
+    write_list(out, array.masks)?;
+    write_text(out, b" ")?;
+    write_list(out, array.values)?;
+    write_text(out, b" ")?;
+    write_list(out, array.offsets)?;
+    write_text(out, b"\n")
 }
 
 // The lists up to the lengths that an answer names.
@@ -51,7 +89,7 @@ pub fn first_of<'a>(array: ArrayBytes<'a>, lengths: Lengths) -> ArrayBytes<'a>
 
 pub fn write_refused(out: &mut impl Write, e: Refusal) -> io::Result<()> {
     let e = e.number();
-    write!(out, "refused {e}")
+    write_shown(out, format_args!("refused {e}"))
 }
 
 pub fn write_refusal(out: &mut impl Write, e: Refusal) -> io::Result<()> {
@@ -62,11 +100,11 @@ pub fn write_refusal(out: &mut impl Write, e: Refusal) -> io::Result<()> {
 // The number of a table and the numbers of its kind.
 pub fn write_title(out: &mut impl Write, number: u64, kind: &[u64]) -> io::Result<()> {
     let kind = Listed(kind);
-    writeln!(out, "{number}: kind {kind}")
+    write_shown(out, format_args!("{number}: kind {kind}\n"))
 }
 
 // What a cut is of.
 pub fn write_cut(out: &mut impl Write, subset: &[u64]) -> io::Result<()> {
     let subset = Listed(subset);
-    write!(out, "cut {subset}: ")
+    write_shown(out, format_args!("cut {subset}: "))
 }

@@ -3,9 +3,8 @@
 // previewed. Masks before starts before lengths before store; ` spoilt` where a byte beyond the lengths, or any after a refusal, has changed.
 use crate::lent::LentTable;
 use crate::show;
-use crate::show::write_end;
+use crate::show::{write_end, write_list, write_shown, write_text};
 use array::refusal::Refusal;
-use print::Listed;
 use std::io;
 use std::io::Write;
 use table::answer::{Preview, TableLengths};
@@ -22,11 +21,14 @@ fn write_lists(
     lengths: TableLengths,
     table: &LentTable<'_>,
 ) -> io::Result<()> {
-    let masks = Listed(part_of(table.masks, 0, lengths.masks));
-    let starts = Listed(part_of(table.starts, 0, lengths.starts));
-    let sizes = Listed(part_of(table.lengths, 0, lengths.lengths));
-    let store = Listed(part_of(table.store, 0, lengths.store));
-    write!(out, ": {masks} {starts} {sizes} {store}")
+    write_text(out, b": ")?;
+    write_list(out, part_of(table.masks, 0, lengths.masks))?;
+    write_text(out, b" ")?;
+    write_list(out, part_of(table.starts, 0, lengths.starts))?;
+    write_text(out, b" ")?;
+    write_list(out, part_of(table.lengths, 0, lengths.lengths))?;
+    write_text(out, b" ")?;
+    write_list(out, part_of(table.store, 0, lengths.store))
 }
 
 // The whole table, and the end of its line.
@@ -53,7 +55,7 @@ pub fn write_made(
             let s = lengths.starts;
             let l = lengths.lengths;
             let b = lengths.store;
-            write!(out, "ok {m},{s},{l},{b}")?;
+            write_shown(out, format_args!("ok {m},{s},{l},{b}"))?;
             write_lists(out, lengths, table)?;
             write_end(out, table.is_blank_beyond(lengths))
         }
@@ -78,7 +80,7 @@ pub fn write_settled(
 ) -> io::Result<()> {
     match answer {
         Ok(()) => {
-            write!(out, "ok")?;
+            write_text(out, b"ok")?;
             write_whole(out, table)
         }
         Err(e) => write_refused(out, e, kept),
@@ -94,7 +96,7 @@ pub fn write_packed(
 ) -> io::Result<()> {
     match answer {
         Ok(moved) => {
-            write!(out, "ok {moved}")?;
+            write_shown(out, format_args!("ok {moved}"))?;
             write_whole(out, table)
         }
         Err(e) => write_refused(out, e, kept),
@@ -104,7 +106,9 @@ pub fn write_packed(
 // The answer of preview_cell, which is lent nothing that it could change.
 pub fn write_previewed(out: &mut impl Write, answer: Result<Preview, Refusal>) -> io::Result<()> {
     match answer {
-        Ok(Preview { total, unpacked }) => writeln!(out, "ok {total},{unpacked}"),
+        Ok(Preview { total, unpacked }) => {
+            write_shown(out, format_args!("ok {total},{unpacked}\n"))
+        }
         Err(e) => write_refused(out, e, true),
     }
 }

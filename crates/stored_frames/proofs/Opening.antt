@@ -143,9 +143,9 @@ module _ (mf : MaskForm) (d : ℕ) (s : List ℕ) (at n : ℕ) where
       go zero f = absurd (f refl)
       go (suc d) f = rw (sub-one (suc d))
 
-  pub frame_refused : (e : ℕ) → opened mf (drop at s) n ≡ refuses e → refuses e ≡ walked_frame mf d s at n
+  pub frame_refused : {e : ℕ} → refuses e ≡ opened mf (drop at s) n → refuses e ≡ walked_frame mf d s at n
   unfolding walked_frame
-  frame_refused e h = rw h
+  frame_refused h = rw (sym h)
 
   -- by how many cells its content has, which lies from a on
   module _ (k : ℕ) (h : opened mf (drop at s) n ≡ gives k) {a : ℕ} (ea : a ≡ content_at mf at n) where

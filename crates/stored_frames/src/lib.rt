@@ -60,6 +60,7 @@ pub fn walk_content(
 
 // Walks a frame of so many cells, with `below` levels in its content. Where none is set its content must be empty.
 #[cycle(walk_content_walk_frame)]
+#[tactic(auto, using(crate::proofs::Opening::frame_refused))]
 pub fn walk_frame(
     form: MaskForm,
     s: &[u8],

@@ -1,5 +1,5 @@
 -- Redundant by the laws asked_left and row_is in subset/proofs/Rows.antt: the cells of a subset, and what a step along its rows gives;
--- a step along a list of subsets by the law subset_split in subset/proofs/Subsets.antt.
+-- a step along a list of subsets by the law split_first in subset/proofs/Subsets.antt.
 -- Assumes nothing.
 use Rattle.std.specs.Prelude.{◌≡◌, ℕ, ◌+◌, ◌≤◌, List, [], ◌∷◌, length, Option, None, Some}
 use Rattle.array.specs.Subset.{Subset, pairs, subsets_of, cells_in, cells_of_all}

@@ -5,7 +5,7 @@ use mathlib.Core.Bool.{Bool, true, false, ◌&&◌}
 use mathlib.Core.List.{List, [], ◌∷◌}
 use Prim.Native.Nat.{ℕ, ◌+◌, ◌≤◌, ◌<◌, ◌^◌}
 use native.Mathlib.Omega.{arith}
-use lib.ListN.{length}
+use lib.ListN.{length, take}
 use Rattle.array.specs.Lists.{from, All, every}
 use Rattle.array.specs.Cells.{strict_test}
 use Rattle.array.proofs.Lists.{All-map}
@@ -63,5 +63,7 @@ module _ (d n : ℕ) (t : Table) where
       pub cells_overlap : follow_test (start_of t) (length_of t) 0 js ≡ false → table_test d n t ≡ false
       cells_overlap e = follow-left ∙ e
 
-      pub cells_apart : follow_test (start_of t) (length_of t) 0 js ≡ true → length js ≤ n → Lain d n t js
-      cells_apart e few = record { sound = table_ok d n t (follow-left ∙ e); few = few; order = lies_are l (follow_ok (start_of t) (length_of t) 0 js e) }
+      pub cells_apart : follow_test (start_of t) (length_of t) 0 js ≡ true → {m : ℕ} {order : List ℕ} → take m order ≡ js → m ≤ n → Lain d n t order m
+      cells_apart e first few =
+          let lying = lies_are l (follow_ok (start_of t) (length_of t) 0 js e) in
+          record { sound = table_ok d n t (follow-left ∙ e); few = few; order = first ∙ lying }

@@ -32,23 +32,18 @@ fn follow(starts: &[u64], lengths: &[u64], order: &[u16]) -> bool
     true
 }
 
-// The rules for a table of n cells: the numbers of those that have bytes, as they lie, which the order then begins with; none where a rule
+// The rules for a table of n cells: how many of them have bytes, whose numbers the order then begins with, as they lie; none where a rule
 // is broken.
-pub fn check_cells<'a>(
-    depth: usize,
-    n: usize,
-    table: Table,
-    order: &'a mut [u16],
-) -> Option<&'a [u16]>
+pub fn check_cells(depth: usize, n: usize, table: Table, order: &mut [u16]) -> Option<usize>
     requires { (n ≤ most_cells) × (1 ≤ n) × (depth ≤ 4) × (n ≤ length order.old) }
-    ensures { ToldOrder depth n (lent_table table.entry) result }
+    ensures { ToldOrder depth n (lent_table table.entry) order.new result }
 {
     if !rules::keep_rules(depth, n, table) {
         return None;
     }
-    let cells = lie(table.starts, table.lengths, n, order);
-    if !follow(table.starts, table.lengths, cells) {
+    let count = lie(table.starts, table.lengths, n, order);
+    if !follow(table.starts, table.lengths, &order[..count]) {
         return None;
     }
-    Some(cells)
+    Some(count)
 }

@@ -46,13 +46,13 @@ fn pack_with(
         lengths,
         store,
     };
-    let Some(numbers) = check_cells(depth, shape.cells, table, order) else {
+    let Some(count) = check_cells(depth, shape.cells, table, order) else {
         return Err(Refusal::Content);
     };
     if !store_ok(store.len()) {
         return Err(Refusal::Size);
     }
-    Ok(move_cells(starts, lengths, store, numbers, most))
+    Ok(move_cells(starts, lengths, store, &order[..count], most))
 }
 
 // The same with room for the order of so many cells: little is cleared for a small table. As `read_in` of `table_read`.

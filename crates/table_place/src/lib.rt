@@ -30,8 +30,8 @@ fn room_for(
     if size <= end - top {
         return top;
     }
-    let cells = table_order::lie(starts, lengths, n, order);
-    table_move::move_cells(starts, lengths, store, cells, n);
+    let count = table_order::lie(starts, lengths, n, order);
+    table_move::move_cells(starts, lengths, store, &order[..count], n);
     sums::sum_of(lengths)
 }
 

@@ -45,7 +45,8 @@ fn preview_sound(table: Table, order: &[u16], setting: Setting) -> Result<Previe
         (setting_answer setting.entry.cell setting.entry.masks.now setting.entry.value.now (lent_table table.entry)) }
 {
     let room = table.store.len();
-    let fitting = fit(table.lengths, room, setting)?;
+    let length = setting.value.len();
+    let fitting = fit(table.lengths, room, setting.cell, setting.masks, length)?;
     let size = fitting.size;
     let total = fitting.others;
     let found = others::look_at(table.starts, table.lengths, order, setting.cell);
@@ -68,13 +69,13 @@ fn preview_with(
         setting.entry.cell setting.entry.masks.now setting.entry.value.now }
 {
     let depth = shape.kind.depth as usize;
-    let Some(numbers) = check_cells(depth, shape.cells, table, order) else {
+    let Some(count) = check_cells(depth, shape.cells, table, order) else {
         return Err(Refusal::Content);
     };
     if !are_strict(setting.masks, depth) {
         return Err(Refusal::Content);
     }
-    preview_sound(table, numbers, setting)
+    preview_sound(table, &order[..count], setting)
 }
 
 // The same with room for the order of so many cells: little is cleared for a small table. As `read_in` of `table_read`.

@@ -56,7 +56,8 @@ fn set_sound(
     ensures { outcome_settled result masks.new starts.new lengths.new store.new
         ≡ setting_by setting.entry.cell setting.entry.masks.now setting.entry.value.now (table_by masks.old starts.old lengths.old store.old) }
 {
-    let fitting = fit(lengths, store.len(), setting)?;
+    let length = setting.value.len();
+    let fitting = fit(lengths, store.len(), setting.cell, setting.masks, length)?;
     settle(masks, starts, lengths, store, order, setting, fitting.size);
     Ok(())
 }

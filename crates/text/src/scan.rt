@@ -1,6 +1,6 @@
 // Lists of numbers and of bytes, read from text. `-` is the empty list. Numbers are decimal and joined by commas, bytes are pairs of
 // hexadecimal digits; COUNT*X is a run of equal ones, and `+` joins runs and plain parts.
-ghost use Rattle.std.specs.Prelude.{◌≡◌, ◌+◌, ◌≤◌, length, IfSome, get_or};
+ghost use Rattle.std.specs.Prelude.{◌≡◌, ◌+◌, ◌≤◌, length, IfNone, IfSome, get_or};
 ghost use Rattle.text.specs.Scan.{digit_of, next_number, number_of, octet_of, between};
 
 // The value of a hexadecimal digit.
@@ -137,7 +137,9 @@ fn read_parts<T: Element>(text: &[u8], room: &mut [T]) -> Option<usize> {
 
 // The list that the text says, read into the front of a room. What is behind it is the room of the next one.
 pub fn read_list<'a, T: Element>(text: &[u8], room: &mut &'a mut [T]) -> Option<&'a [T]>
-    ensures { IfSome result (λ list. length list.now + length room.new.now ≡ length room.old.now) }
+    ensures read { IfSome result
+        (λ list. length list.now + length room.new.now ≡ length room.old.now) }
+    ensures none { IfNone result (length room.new.now ≡ length room.old.now) }
 {
     if text == b"-".as_slice() {
         return Some(&[]);

@@ -11,10 +11,10 @@ loop-done-init c = (refl, blocks_at (omega arith) (blocks_begin c.args.live.coun
 pub loop-done-preserved : goal.loop-done-preserved
 loop-done-preserved c =
     let inv = c.loop-done.invariant in
-    let more = next_block inv.1 c.args.live.counted c.loop-done-test.true c.min-m.ensures c.gather_masks-i.ensures c.mask_length.ensures c.put_plane.ensures in
+    let more = next_block inv.1 c.args.live.counted c.loop-done-test.true c.min-m.ensures (omega arith) (omega arith) c.gather_masks-i.ensures c.mask_length.ensures c.put_plane.ensures in
     (c.gather_masks-i.auto.block ∙ inv.0, more)
 
 pub returns-2 : goal.returns-2
 returns-2 c =
-    let more = next_block c.loop-done.invariant.1 c.args.live.counted c.loop-done-test.true c.min-m.ensures c.gather_masks-i.ensures c.mask_length.ensures c.put_plane.ensures in
+    let more = next_block c.loop-done.invariant.1 c.args.live.counted c.loop-done-test.true c.min-m.ensures (omega arith) (omega arith) c.gather_masks-i.ensures c.mask_length.ensures c.put_plane.ensures in
     blocks_end more (omega (arith, c.args.live.counted))

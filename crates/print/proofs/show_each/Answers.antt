@@ -9,7 +9,7 @@ loop-x-preserved g c = (
   λ plain.
       let e = g.T.Element in
       let so_far = c.loop-x.invariant.1 plain in
-      let before = c.in_ok-write.ensures.writes so_far.1.plain (refl {a = true}) in
+      let before = c.in_ok-write_str.ensures.writes so_far.1.plain (refl {a = true}) in
       let shown = c.in_ok-show.ensures before.plain (refl {a = true}) in (
         so_far.0 ++ (c.loop-x.before.now ++ e.text c.x-item.result),
         has_written_append _ _ _ _ _ _ so_far.1 (has_written_append _ _ _ _ _ _ before shown),

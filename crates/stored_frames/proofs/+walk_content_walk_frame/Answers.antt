@@ -1,13 +1,13 @@
 -- The walk of contents and frames meets its contracts: an opened frame's mask lies within the bytes (Opening).
 -- Assumes nothing.
-use Rattle.std.proofs.Common.{rules, ◌≡◌, ◌≤◌, ◌+◌, ℕ, List, length, drop, length-drop, sym, ap, ◌∙◌, arith}
+use Rattle.std.proofs.Common.{◌≡◌, ◌≤◌, ◌+◌, ℕ, List, length, drop, length-drop, sym, ap, ◌∙◌, arith}
 use Rattle.array.specs.Answer.{gives}
 use Rattle.array.specs.Kind.{Masks}
 use Rattle.array.specs.Meaning.{masks_of}
 use Rattle.codec.specs.Mask.{mask_form}
 use Rattle.stored_frames.specs.Walk.{opened}
 use Rattle.stored_frames.specs.Stored.{content_at}
-use Rattle.stored_frames.proofs.Opening.{frame_open, content_end, content_frame, frame_refused, frame_content, frame_hidden, frame_none}
+use Rattle.stored_frames.proofs.Opening.{frame_open, content_end, content_frame, frame_content, frame_hidden, frame_none}
 use Rattle.stored_frames.proofs.+walk_content_walk_frame.Goals as goal
 
 -- of an opened frame with a mask of `size` bytes: where the content begins, within the bytes, and that its cells are few
@@ -44,10 +44,6 @@ walk_frame-walk_content-requires t c =
     let was_open : opened (mask_form m) (drop a.at a.s.now) a.cells ≡ gives c.in_ok-set.set = sym c.in_ok-set.ensures in
     let room : a.at + (16 + c.mask_length.result) ≤ length a.s.now = content_room m a.s.now a.at a.cells _ _ was_open c.mask_length.ensures (omega arith) in
     omega (arith, room, (frame_open m (drop a.at a.s.now) a.cells c.in_ok-set.set was_open).few)
-
-pub walk_frame-returns-in_err-set : goal.walk_frame-returns-in_err-set
-walk_frame-returns-in_err-set t c =
-    let a = c.args in let e = frame_refused (mask_form (masks_of a.form)) a.below a.s.now a.at a.cells _ (sym c.in_err-set.ensures) in search rules
 
 pub walk_frame-returns-then-set-gt0 : goal.walk_frame-returns-then-set-gt0
 walk_frame-returns-then-set-gt0 t c =

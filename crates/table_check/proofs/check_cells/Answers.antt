@@ -1,6 +1,6 @@
 -- `table_check::check_cells` meets its contract, by the laws of Checking.
 -- Assumes nothing.
-use mathlib.Core.Path.{sym}
+use mathlib.Core.Path.{refl, sym}
 use Prim.Native.Nat.{◌<◌, ◌^◌}
 use native.Mathlib.Omega.{arith}
 use lib.ListN.{length}
@@ -14,13 +14,13 @@ returns-then-not-keep_rules c = cells_broken c.args.depth c.args.n (lent_table c
 pub follow-requires : goal.follow-requires
 follow-requires c =
     let short : length c.args.table.store.now < 2 ^ 64 = omega arith in
-    all_reached c.args.depth c.args.n (lent_table c.args.table) (sym c.if-not-keep_rules.ensures) c.lie-cells.ensures.lies short
+    all_reached c.args.depth c.args.n (lent_table c.args.table) (sym c.if-not-keep_rules.ensures) c.lie-count.ensures.lies short
 
 pub returns-then-not-follow : goal.returns-then-not-follow
 returns-then-not-follow c =
-    cells_overlap c.args.depth c.args.n (lent_table c.args.table) (sym c.if-not-keep_rules.ensures) c.lie-cells.ensures.lies (sym c.if-not-follow.ensures)
+    cells_overlap c.args.depth c.args.n (lent_table c.args.table) (sym c.if-not-keep_rules.ensures) c.lie-count.ensures.lies (sym c.if-not-follow.ensures)
 
 pub returns : goal.returns
 returns c =
-    cells_apart c.args.depth c.args.n (lent_table c.args.table) (sym c.if-not-keep_rules.ensures) c.lie-cells.ensures.lies (sym c.if-not-follow.ensures)
-    c.lie-cells.ensures.within
+    cells_apart c.args.depth c.args.n (lent_table c.args.table) (sym c.if-not-keep_rules.ensures) c.lie-count.ensures.lies (sym c.if-not-follow.ensures)
+    refl c.lie-count.ensures.within

@@ -10,7 +10,7 @@ returns-then-size-end c = roomy_left c.requires.0 c.top_of-top.ensures.0 c.if-si
 pub move_cells-requires : goal.move_cells-requires
 move_cells-requires c =
     let pre = c.requires in
-    (pre.0.lengths_fit, found pre.0 c.lie-cells.ensures.lies)
+    (pre.0.lengths_fit, found pre.0 c.lie-count.ensures.lies)
 
 pub sum_of-requires : goal.sum_of-requires
 sum_of-requires c =

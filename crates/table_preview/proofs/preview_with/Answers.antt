@@ -3,6 +3,7 @@
 use mathlib.Core.Path.{sym, ap, ◌∙◌, subst}
 use Prim.Native.Nat.{ℕ}
 use native.Mathlib.Omega.{arith}
+use lib.ListN.{take}
 use Rattle.array.specs.Answer.{map_answer}
 use Rattle.array.specs.Meaning.{kind_of}
 use Rattle.table.specs.Table.{Table}
@@ -27,7 +28,7 @@ preview_sound-requires c =
     let table : Table = lent_table a.table in
     let lain = c.in-Some.ensures in (
       sound a.shape table a.setting lain.sound (sym c.if-not-are_strict.ensures) (omega (arith, lain.sound.starts_fit)),
-      subst (λ (n : ℕ). InOrder n table c.in-Some.numbers.now) (sym lain.sound.starts_fit) (in_order lain.sound lain.order),
+      subst (λ (n : ℕ). InOrder n table (take c.in-Some.count c.check_cells.new.order)) (sym lain.sound.starts_fit) (in_order lain.sound lain.order),
     )
 
 pub returns-in_default : goal.returns-in_default

@@ -39,12 +39,12 @@ returns-then-not-has_room c =
     let a = c.args in
     let l = a.load in
     no_values (layout lengthy l.depth (cells_of lengthy l)) (content_array a.masks.now a.values.now a.offsets.now) _ refl
-    (leb-false (bytes_of lengthy l) _ (sym (c.if-not-has_room.ensures (bytes_of lengthy l) (λ n h. search rules) (ragged_total l))))
+    (leb-false (bytes_of lengthy l) _ (sym (c.if-not-has_room.ensures (bytes_of lengthy l) (λ n h. search rules) (omega (arith, ragged_total l)))))
 
 pub draw_cells-bytes-requires : goal.draw_cells-bytes-requires
 draw_cells-bytes-requires c =
     let l = c.args.load in
-    let fits = leb-true (bytes_of lengthy l) _ (sym (c.if-not-has_room.ensures (bytes_of lengthy l) (λ n h. search rules) (ragged_total l))) in
+    let fits = leb-true (bytes_of lengthy l) _ (sym (c.if-not-has_room.ensures (bytes_of lengthy l) (λ n h. search rules) (omega (arith, ragged_total l)))) in
     record { for_masks = c.if-masks-planes.false; for_values = fits; for_offsets = c.if-offsets-count.false }
 
 pub returns : goal.returns
@@ -52,7 +52,7 @@ returns c =
     let a = c.args in
     let l = a.load in
     let drawn = c.draw_cells-bytes.ensures in
-    let fits = leb-true (bytes_of lengthy l) _ (sym (c.if-not-has_room.ensures (bytes_of lengthy l) (λ n h. search rules) (ragged_total l))) in
+    let fits = leb-true (bytes_of lengthy l) _ (sym (c.if-not-has_room.ensures (bytes_of lengthy l) (λ n h. search rules) (omega (arith, ragged_total l)))) in
     put (layout lengthy l.depth (cells_of lengthy l)) (content_array a.masks.now a.values.now a.offsets.now) _ _ _
     (count_masks lengthy l.depth l.n l.first.state) (sym drawn.counts) (count_offsets lengthy l.depth l.n l.first.state)
     c.if-masks-planes.false (omega (arith, fits, drawn.counts)) c.if-offsets-count.false _ _ _ drawn.planes drawn.joins drawn.places
