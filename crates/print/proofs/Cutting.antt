@@ -1,18 +1,12 @@
 -- Text that is cut off where its room is full.
 use mathlib.Core.Path.{◌≡◌, refl, sym, ap, ◌∙◌}
 use mathlib.Core.List.{List, [], ◌∷◌, ◌++◌, append_assoc, append-nil}
-use Prim.Native.Nat.{ℕ, zero, suc, ◌+◌, ◌-◌, ◌≤◌}
-use native.Mathlib.Omega.{arith}
-use lib.ListN.{length, take}
-use borrow.Rule.Slice.PartMut.{put_mid}
-use Rattle.std.specs.Prelude.{min, Option, None, Some, IfSome, Result, Ok, Err, OnOk}
+use Prim.Native.Nat.{ℕ, zero, suc}
+use lib.ListN.{take}
+use Rattle.std.specs.Prelude.{Option, None, Some, IfSome, Result, Ok, Err, OnOk}
 use Rattle.std.specs.List.{FoldsTo, concat}
 use Rattle.std.specs.Fmt.{WritesText}
 use Rattle.std.specs.declared.fmt.Error.{Error}
-use Rattle.std.proofs.Common.{length-take-le}
-use Rattle.std.proofs.Math.Seq.{take-append-add}
-use Rattle.std.proofs.lemmas.List.{take_min}
-use Rattle.std.proofs.lemmas.Slice.{take-put_mid}
 
 module _ (room : ℕ) where
   -- a text cut off twice, the second time with more behind it
@@ -52,14 +46,3 @@ module _ (room : ℕ) where
   pub shown_cut : (r : Result (Unit {0}) Error) (o : Option (List ℕ)) (t : List ℕ) → OnOk r (WritesText Takes [] o t) → OnOk r (IfSome o (λ text. t ≡ take room text))
   shown_cut (Ok x) o t wrote = text_cut o t wrote
   shown_cut (Err e) o t wrote = tt
-
-  -- one piece put behind what stands there, as far as there is room
-  pub piece_cut : (len n : ℕ) (bytes piece part : List ℕ) → len ≤ room → len ≤ length bytes → n ≡ min (length piece) (room - len) → part ≡ take n piece
-      → take (len + n) (put_mid len (len + n - len) bytes part) ≡ take room (take len bytes ++ piece)
-  piece_cut len n bytes piece part within held most is =
-      let long : length part ≡ n = omega (arith, ap length is, length-take-le n piece (omega arith)) in
-      let stands : length (take len bytes) ≡ len = length-take-le len bytes held in
-      take-put_mid len (len + n - len) bytes part (len + n) (omega arith) held
-      ∙ ap (λ l. take len bytes ++ l) (is ∙ ap (λ k. take k piece) (omega arith) ∙ take_min (room - len) piece)
-      ∙ sym (take-append-add (take len bytes) piece (room - len))
-      ∙ ap (λ k. take k (take len bytes ++ piece)) (omega arith)

@@ -3,7 +3,7 @@ use mathlib.Core.Path.{◌≡◌, refl, sym, ap, subst, ◌∙◌}
 use mathlib.Core.Logic.{◌≢◌}
 use mathlib.Core.Bool.{Bool, true, false, cond}
 use mathlib.Core.List.{List, [], ◌∷◌, ◌++◌, append_assoc, append-nil}
-use Prim.Native.Nat.{ℕ, suc, ◌<◌, ◌≤◌, ◌+◌, ◌^◌, ◌-◌}
+use Prim.Native.Nat.{ℕ, suc, ◌<◌, ◌≤◌, ◌+◌, ◌-◌}
 use native.Mathlib.Omega.{arith}
 use native.Mathlib.Numerals.{add-one}
 use lib.Dec.{eqb, ltb}
@@ -11,27 +11,20 @@ use lib.ListN.{length, get_or, drop}
 use borrow.Author.Tests.{ltb-true, lt-ltb, ltb-false, le-ltb, ne_eqb}
 use Rattle.std.proofs.Common.{◌↔◌, codes}
 use Rattle.std.proofs.Math.Seq.{drop-cons}
-use Rattle.std.proofs.lemmas.Fmt.{hex_byte}
-use Rattle.std.specs.Fmt.{decimal, digits, format_spec, padded_integral}
+use Rattle.std.specs.Fmt.{decimal}
 use Rattle.std.specs.List.{AllByRecursion, IsChunkByPrefix}
 use Rattle.print.specs.declared.Last.{Last}
 use Rattle.print.specs.declared.Last.TheVariants.{Plain, Run}
-use Rattle.print.specs.Print.{octet_text, glyph_of, part_of, joint_of, count_text, each_text, equal_text, last_of, equal_run, shown_of, shown_part, text_after}
-
--- `{:02X}` of a byte
-pub octet_is : (b : ℕ) → b < 256 → padded_integral (format_spec 32 0 4 2 (2 ^ 64 - 1)) false [] (digits 16 true b) ≡ octet_text b
-unfolding glyph_of
-octet_is b h = hex_byte true b h
+use Rattle.print.specs.Print.{part_of, joint_of, count_text, each_text, equal_text, last_of, equal_run, shown_of, shown_part, text_after}
 
 module _ {A : Type 0} (joint : List ℕ) (text : A → List ℕ) where
   -- one element more
-  pub each_more : (before after done whole : List ℕ) (xs : List A) (i : ℕ) (x : A) → i < length xs → x ≡ get_or xs i x → after ≡ joint
+  pub each_more : (before done whole : List ℕ) (xs : List A) (i : ℕ) (x : A) → i < length xs → x ≡ get_or xs i x
       → done ++ each_text joint text before (drop i xs) ≡ whole
-      → (done ++ (before ++ text x)) ++ each_text joint text after (drop (i + 1) xs) ≡ whole
-  each_more before after done whole xs i x h e j w =
+      → (done ++ (before ++ text x)) ++ each_text joint text joint (drop (i + 1) xs) ≡ whole
+  each_more before done whole xs i x h e w =
       let d : drop i xs ≡ get_or xs i x ∷ drop (i + 1) xs = rw add-one (drop-cons xs i x h) in
-      ap (λ b. (done ++ (before ++ text x)) ++ each_text joint text b (drop (i + 1) xs)) j
-      ∙ append_assoc done (before ++ text x) _
+      append_assoc done (before ++ text x) _
       ∙ ap (λ t. done ++ t) (append_assoc before (text x) _ ∙ ap (λ y. before ++ (text y ++ each_text joint text joint (drop (i + 1) xs))) e
       ∙ ap (each_text joint text before) (sym d))
       ∙ w

@@ -1,5 +1,5 @@
 // Text in a room of a fixed size, cut off where that is full.
-ghost use Rattle.std.specs.Prelude.{◌≡◌, ◌++◌, [], take, IfSome, OnOk};
+ghost use Rattle.std.specs.Prelude.{◌≡◌, ◌≤◌, ◌+◌, ◌++◌, [], length, take, IfSome, OnOk};
 
 use std::fmt;
 use std::fmt::{Display, Write};
@@ -40,6 +40,18 @@ impl<const N: usize> Cut<N> {
         self.write(shown)
     }
 
+    // Bytes for which there is room.
+    #[inline(always)]
+    fn push(&mut self, bytes: &[u8])
+        requires { length self.old + length bytes.now ≤ N }
+        ensures { self.new ≡ self.old ++ bytes.now }
+    {
+        let end = self.len + bytes.len();
+        let room = &mut self.room[..];
+        room[self.len..end].copy_from_slice(bytes);
+        self.len = end;
+    }
+
     pub fn as_bytes(&self) -> &[u8]
         ensures { result.now ≡ self.now }
     {
@@ -51,12 +63,15 @@ impl<const N: usize> Cut<N> {
 impl<const N: usize> Write for Cut<N> {
     ghost write_str_gives = { λ s text t. t ≡ take N (s ++ text) };
 
+    #[inline(always)]
     fn write_str(&mut self, text: &str) -> fmt::Result {
-        let n = text.len().min(N - self.len);
-        let end = self.len + n;
-        let room = &mut self.room[..];
-        room[self.len..end].copy_from_slice(&text.as_bytes()[..n]);
-        self.len = end;
+        let bytes = text.as_bytes();
+        let left = N - self.len;
+        if bytes.len() <= left {
+            self.push(bytes);
+        } else {
+            self.push(&bytes[..left]);
+        }
         Ok(())
     }
 }

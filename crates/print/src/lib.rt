@@ -4,14 +4,15 @@
 
 pub mod cut;
 
-ghost use Rattle.std.specs.Prelude.{◌≡◌, ◌↔◌, ◌<◌, ℕ, true, List, [], Some, codes, length, IfOk};
+ghost use Rattle.std.specs.Prelude.{◌≡◌, ◌↔◌, ◌<◌, ◌≤◌, ℕ, true, List, [], ◌∷◌, Some, codes, length, IfOk};
 ghost use Rattle.std.specs.Fn.{ComputesOnPairs};
 ghost use Rattle.std.specs.Slice.Iter.{chunk_by_callee, chunk_by_rest};
 ghost use Rattle.std.specs.Fmt.{WritesOnOk, IsPlainFormatter, HasWritten, decimal};
 ghost use Rattle.std.proofs.Common.{eqb-true, eq-eqb};
 ghost use Rattle.print.specs.declared.Last.TheVariants.{Nothing, Plain};
-ghost use Rattle.print.specs.Print.{octet_text, list_text, each_text, equal_text, joint_of, last_of, text_after};
+ghost use Rattle.print.specs.Print.{glyph_of, octet_text, list_text, each_text, equal_text, joint_of, last_of, text_after};
 
+use itoa::Buffer;
 use std::fmt;
 use std::fmt::{Formatter, Write};
 use std::slice::ChunkBy;
@@ -38,6 +39,33 @@ pub trait Element: Copy + PartialEq + Drop {
     ghost same: { (x y : Self) → (Self.eq x y ≡ true) ↔ (x ≡ y) };
 }
 
+// A hexadecimal digit, in upper case.
+#[tactic(auto, unfolding(crate::specs::Print::glyph_of))]
+#[inline(always)]
+fn glyph(d: u8) -> &'static str
+    requires { d ≤ 15 }
+    ensures { result.now ≡ glyph_of d ∷ [] }
+{
+    match d {
+        0 => "0",
+        1 => "1",
+        2 => "2",
+        3 => "3",
+        4 => "4",
+        5 => "5",
+        6 => "6",
+        7 => "7",
+        8 => "8",
+        9 => "9",
+        10 => "A",
+        11 => "B",
+        12 => "C",
+        13 => "D",
+        14 => "E",
+        _ => "F",
+    }
+}
+
 impl Element for u8 {
     ghost joint = { [] };
 
@@ -49,9 +77,10 @@ impl Element for u8 {
         ""
     }
 
-    #[tactic(auto, using(crate::proofs::Showing::octet_is))]
+    #[inline(always)]
     fn show<W: Write>(self, f: &mut Formatter<W>) -> fmt::Result {
-        write!(f, "{self:02X}")
+        f.write_str(glyph(self / 16))?;
+        f.write_str(glyph(self % 16))
     }
 }
 
@@ -66,8 +95,9 @@ impl Element for u64 {
         ","
     }
 
+    #[inline(always)]
     fn show<W: Write>(self, f: &mut Formatter<W>) -> fmt::Result {
-        write!(f, "{self}")
+        f.write_str(Buffer::new().format(self))
     }
 }
 
@@ -80,13 +110,14 @@ enum Last {
 }
 
 // What joins an element to it.
-fn joint<T: Element>(last: Last) -> &'static str
-    ensures { result.now ≡ joint_of T.joint last Plain }
+#[inline(always)]
+fn write_joint<W: Write, T: Element>(f: &mut Formatter<W>, last: Last) -> fmt::Result
+    ensures { WritesOnOk W.write_str_gives f.old result (joint_of T.joint last Plain) f.new }
 {
     match last {
-        Last::Nothing => "",
-        Last::Plain => T::joint(),
-        Last::Run => "+",
+        Last::Nothing => Ok(()),
+        Last::Plain => f.write_str(T::joint()),
+        Last::Run => f.write_str("+"),
     }
 }
 
@@ -94,11 +125,11 @@ fn joint<T: Element>(last: Last) -> &'static str
 fn show_each<W: Write, T: Element>(f: &mut Formatter<W>, list: &[T], last: Last) -> fmt::Result
     ensures { WritesOnOk W.write_str_gives f.old result (each_text T.joint T.text (joint_of T.joint last Plain) list.now) f.new }
 {
-    let mut before = joint::<T>(last);
+    let mut before = last;
     for x in list {
-        f.write_str(before)?;
+        write_joint::<W, T>(f, before)?;
         x.show(f)?;
-        before = T::joint();
+        before = Last::Plain;
     }
     Ok(())
 }
