@@ -34,8 +34,11 @@
 // Outputs are filled with EE beforehand; `spoilt` says that a byte beyond the lengths, or any after a refusal, has changed.
 #![tactic(auto)]
 
+ghost use Rattle.std.specs.Prelude.{◌≤◌};
+
 mod calls;
 
+use array::answer::Lengths;
 use requests::call::Call;
 use requests::input::room;
 use requests::{Request, input};
@@ -53,12 +56,12 @@ const BYTES: usize = 393216;
 // Room for the offsets of 65,536 cells, and for what else a request has in numbers.
 const NUMBERS: usize = 66560;
 
-// Lends the outputs, makes the call, and writes its answer.
-fn respond(out: &mut impl Write, call: Call, q: Request<'_>) -> io::Result<()> {
-    let bytes = q.array.values.len();
-    let Some(rooms) = responses::rooms_of(call, q.rooms, bytes, BYTES, BYTES, NUMBERS) else {
-        return show::write_line(out, b"bad line");
-    };
+// Lends outputs of these lengths, makes the call, and writes its answer. A function of its own, so that its rooms are cleared where they are
+// needed, and once.
+#[inline(never)]
+fn respond_in(out: &mut impl Write, call: Call, q: Request<'_>, rooms: Lengths) -> io::Result<()>
+    requires { (rooms.masks ≤ 393216) × (rooms.values ≤ 393216) × (rooms.offsets ≤ 66560) }
+{
     let mut masks = room::<u8, BYTES>(0);
     let mut values = room::<u8, BYTES>(0);
     let mut offsets = room::<u64, NUMBERS>(0);
@@ -71,6 +74,15 @@ fn respond(out: &mut impl Write, call: Call, q: Request<'_>) -> io::Result<()> {
     lent.lend(in_place);
     let answer = calls::run(call, q, &mut lent);
     responses::write_answer(out, responses::outputs_of(call), answer, in_place, &lent)
+}
+
+// The same of a request that names the lengths itself; beyond the rooms it is no request.
+fn respond(out: &mut impl Write, call: Call, q: Request<'_>) -> io::Result<()> {
+    let bytes = q.array.values.len();
+    match responses::rooms_of(call, q.rooms, bytes, BYTES, BYTES, NUMBERS) {
+        Some(rooms) => respond_in(out, call, q, rooms),
+        None => show::write_line(out, b"bad line"),
+    }
 }
 
 // Answers a line that hands no table over.
