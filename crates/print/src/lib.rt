@@ -144,6 +144,11 @@ fn show_equal<W: Write, T: Element>(
     ensures { IfOk result (λ next. (next ≡ last_of (length list.now))
         × (IsPlainFormatter f.old → HasWritten W.write_str_gives f.old (equal_text T.joint T.text last list.now) f.new)) }
 {
+    if let [x] = list {
+        write_joint::<W, T>(f, last)?;
+        x.show(f)?;
+        return Ok(Last::Plain);
+    }
     let n = list.len();
     if n < LONG_RUN {
         show_each(f, list, last)?;
