@@ -1,5 +1,6 @@
 // Answers and lists written to a writer.
-ghost use Rattle.std.specs.Prelude.{[], ◌∷◌, ◌++◌, ◌≡◌, take, IfSome, OnOk};
+ghost use Rattle.std.specs.Prelude.{[], ◌∷◌, ◌++◌, ◌≡◌, take, codes, eqb, IfSome, OnOk};
+ghost use Rattle.std.specs.Fmt.{decimal};
 ghost use Rattle.std.specs.Io.KnownBytes.{Appends};
 ghost use Rattle.array.specs.Meaning.{lent};
 ghost use Rattle.print.specs.Print.{list_text};
@@ -19,6 +20,9 @@ use text::scan::part_of;
 const PART: usize = 16384;
 
 const LINE: usize = 262144;
+
+// Room for a title and the like, which are short. What is beyond is written all the same.
+const SHORT: usize = 256;
 
 pub fn write_text<W: Write>(out: &mut W, text: &[u8]) -> io::Result<()>
     ensures { OnOk result (Appends (W.contents out.old) (W.contents out.new) text.now) }
@@ -97,14 +101,79 @@ pub fn write_refusal(out: &mut impl Write, e: Refusal) -> io::Result<()> {
     write_text(out, b"\n")
 }
 
+// What a value shows as, whole: at once where it is short, and else piece by piece.
+fn write_uncut<W: Write, D: Display + Drop>(out: &mut W, shown: D) -> io::Result<()>
+    ensures { OnOk result (IfSome (D.output shown)
+        (Appends (W.contents out.old) (W.contents out.new))) }
+{
+    let mut text = Cut::<SHORT>::new();
+    text.show(format_args!("{shown}"))?;
+    let bytes = text.as_bytes();
+    if bytes.len() < SHORT {
+        return write_text(out, bytes);
+    }
+    out.write_fmt(shown)
+}
+
 // The number of a table and the numbers of its kind.
-pub fn write_title(out: &mut impl Write, number: u64, kind: &[u64]) -> io::Result<()> {
+pub fn write_title<W: Write>(out: &mut W, number: u64, kind: &[u64]) -> io::Result<()>
+    ensures { OnOk result (Appends (W.contents out.old) (W.contents out.new)
+        (decimal number ++ (codes ": kind "
+        ++ (list_text eqb (codes ",") decimal kind.now ++ 10 ∷ [])))) }
+{
     let kind = Listed(kind);
-    write_shown(out, format_args!("{number}: kind {kind}\n"))
+    write_uncut(out, format_args!("{number}: kind {kind}\n"))
 }
 
 // What a cut is of.
-pub fn write_cut(out: &mut impl Write, subset: &[u64]) -> io::Result<()> {
+pub fn write_cut<W: Write>(out: &mut W, subset: &[u64]) -> io::Result<()>
+    ensures { OnOk result (Appends (W.contents out.old) (W.contents out.new)
+        (codes "cut " ++ (list_text eqb (codes ",") decimal subset.now ++ codes ": "))) }
+{
     let subset = Listed(subset);
-    write_shown(out, format_args!("cut {subset}: "))
+    write_uncut(out, format_args!("cut {subset}: "))
+}
+
+#[cfg(test)]
+mod tests {
+    use super::*;
+    use std::test::Fail;
+
+    // 4,000 numbers of five digits: 23,999 bytes with what joins them.
+    fn long_list() -> [u64; 4000] {
+        let mut list = [0; 4000];
+        for i in 0..4000 {
+            list[i] = 10000 + i as u64;
+        }
+        list
+    }
+
+    #[test]
+    fn short_title_and_cut(rt: HostRuntime) -> Result<(), Fail> {
+        let mut out = Vec::new(rt.alloc());
+        write_title(&mut out, 12, &[1, 0, 4, 1, 0])?;
+        write_cut(&mut out, &[0, 2])?;
+        assert!(rt; out.as_slice() == b"12: kind 1,0,4,1,0\ncut 0,2: ".as_slice());
+        Ok(())
+    }
+
+    #[test]
+    fn long_title_is_whole(rt: HostRuntime) -> Result<(), Fail> {
+        let mut out = Vec::new(rt.alloc());
+        write_title(&mut out, 7, &long_list())?;
+        assert_eq!(rt; out.len(), 24008);
+        assert!(rt; out.starts_with(b"7: kind 10000,10001,"));
+        assert!(rt; out.ends_with(b",13998,13999\n"));
+        Ok(())
+    }
+
+    #[test]
+    fn long_cut_is_whole(rt: HostRuntime) -> Result<(), Fail> {
+        let mut out = Vec::new(rt.alloc());
+        write_cut(&mut out, &long_list())?;
+        assert_eq!(rt; out.len(), 24005);
+        assert!(rt; out.starts_with(b"cut 10000,10001,"));
+        assert!(rt; out.ends_with(b",13998,13999: "));
+        Ok(())
+    }
 }
